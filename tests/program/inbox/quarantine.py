@@ -112,3 +112,11 @@ def other_reasons(room: Room) -> Iterator[Outcome]:
     yield Outcome("let in", inbox.states(), {"1.xml": "applied", "2.xml": "held", "3.xml": "quarantined"})
     why = next(file.why for file in inbox.files() if file.name == "3.xml")
     yield Outcome("far ahead", why, "its number is 101 ahead of the one that the series waits for")
+    room.path("wrong").mkdir()
+    inbox = FakeInbox(room.path("wrong"), room.program, words=("--wrong", "all"))
+    books = [*all_with(country="XX")[:11], *all_with(price="12,99")[11:22], *BOOKS[22:]]
+    regions = "CountriesIncluded>XX</CountriesIncluded", "RegionsIncluded>ECZ</RegionsIncluded"
+    inbox.send("1.xml", feed(1, books).replace(*regions))
+    inbox.run()
+    wanted = "11 of 40 products are emptied, and 11 wrong"
+    yield Outcome("emptied or wrong", inbox.files()[0].why, wanted)

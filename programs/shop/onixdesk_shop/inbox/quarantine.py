@@ -56,11 +56,13 @@ def judge_products(feed: Feed) -> None:
         raise Quarantine("it has neither a Product nor a NoProduct")
     if feed.said.count("no SupplyDetail of the supplier"):
         raise Quarantine("it has no SupplyDetail of the supplier that WORDS names, and some of others")
-    emptied = feed.said.count("Product emptied", "Product left out")
-    wrong = max(emptied, feed.said.wrong) if feed.file.ending != ".csv" else feed.bare
+    is_feed = feed.file.ending != ".csv"
+    emptied = feed.said.count("Product emptied", "Product left out") if is_feed else feed.bare
     total = feed.products + feed.said.count("Product left out")
-    if wrong >= LEAST and wrong * 2 > total:
-        raise Quarantine(f"{wrong} of {total} products are emptied or wrong")
+    # The converter does not say which are both: these count twice.
+    count = emptied + feed.said.wrong
+    if count >= LEAST and count * 2 > total:
+        raise Quarantine(f"{emptied} of {total} products are emptied, and {feed.said.wrong} wrong")
 
 
 def judge_findings(inbox: Inbox, found: Findings, known: int) -> None:

@@ -8,7 +8,7 @@ from typing import Any
 
 from onixdesk_shop.children import Ended, Words
 from onixdesk_shop.desk import Desk
-from onixdesk_shop.inbox import run
+from onixdesk_shop.inbox import decide, run
 from onixdesk_shop.inbox.context import Inbox, Places
 from onixdesk_shop.inbox.ledger import File, Ledger
 from onixdesk_shop.machine import Machine
@@ -111,6 +111,22 @@ class FakeInbox:
         """The lines of a run."""
         self.work(run.run, machine)
         return [line for _, line in self.lines]
+
+    def take(self, name: str, data: bytes | str, time: float | None = None) -> list[str]:
+        """A file comes, and a run takes it."""
+        self.send(name, data, time)
+        return self.run()
+
+    def says(self, work: Callable[[Inbox], Any]) -> str:
+        """What is written to standard output."""
+        machine = self.machine()
+        self.work(work, machine)
+        return machine.written
+
+    def decide(self, what: str, name: str) -> str:
+        """What is said as a person decides on the last file of a name, or of a state."""
+        query = "SELECT max(id) FROM file WHERE ? IN (name, state)"
+        return self.says(lambda each: decide.decide(each, what, each.ledger.file(each.ledger.value(query, name)).mark))
 
     def files(self) -> list[File]:
         return list(self.work(lambda inbox: inbox.ledger.files("1")))

@@ -30,8 +30,7 @@ def mistyped(room: Room) -> Iterator[Outcome]:
         inbox.run()
         found = inbox.states(), price_of(inbox, "R1"), price_of(inbox, "R2")
         yield Outcome(f"{name}: corrected", found, ({"1.xml": "applied"}, "1.000", "1.000"))
-        inbox.send("2.xml", feed_of(2, {"R1": "2.00"}))
-        inbox.run()
+        inbox.take("2.xml", feed_of(2, {"R1": "2.00"}))
         found = sorted(inbox.series.had), price_of(inbox, "R1"), inbox.run()
         yield Outcome(f"{name}: the next one", found, ([*range(1, 2 * parts + 1)], "2.000", []))
 
@@ -52,8 +51,7 @@ OTHERWISE: dict[str, dict[str, Any]] = {
 
 def otherwise(room: Room) -> Iterator[Outcome]:
     inbox = inbox_in(room, "otherwise", words=("--parts", "2"))
-    inbox.send("1.xml", feed_of(1, {"R1": "1.00"}))
-    inbox.run()
+    inbox.take("1.xml", feed_of(1, {"R1": "1.00"}))
     for wanted, given in OTHERWISE.items():
         given = ALIKE | given
         inbox.series.parties, inbox.series.first = given["parties"], given["first"]
@@ -84,13 +82,11 @@ def of_others(room: Room) -> Iterator[Outcome]:
     for number, wanted in ("own", ([1, 2], "2.000")), (NEXT, ([1, 2, 3], "3.000")):
         inbox = inbox_in(room, f"others {number}", number=number)
         for place in (1, 2):
-            inbox.send(f"{place}.xml", feed_of(place, {"R1": f"{place}.00", f"S{place}": "1.00"}))
-            inbox.run()
+            inbox.take(f"{place}.xml", feed_of(place, {"R1": f"{place}.00", f"S{place}": "1.00"}))
         inbox.desk = FakeDesk()
         inbox.desk.series["north"] = Series((*SENDER, *ADDRESSEE), 1)
         inbox.run()
-        inbox.send("other.xml", feed_of(2, {"R1": "3.00"}))
-        inbox.run()
+        inbox.take("other.xml", feed_of(2, {"R1": "3.00"}))
         inbox.series.parties = (*SENDER, "", "")
         inbox.run()
         yield Outcome(f"{number}: numbers and price", (sorted(inbox.series.had), price_of(inbox, "R1")), wanted)
@@ -104,13 +100,12 @@ def compared(room: Room) -> Iterator[Outcome]:
         inbox = inbox_in(room, f"compared {number}", number=number)
         inbox.series.parties = (*SENDER, *ADDRESSEE)
         for place, price in enumerate(("4.50", "1000.00", "5.00"), 1):
-            inbox.send(f"{place}.xml", feed_of(place, {f"R{each}": price for each in range(12)}))
-            inbox.run()
+            inbox.take(f"{place}.xml", feed_of(place, {f"R{each}": price for each in range(12)}))
         inbox.series.parties = (*SENDER, "", "")
         inbox.run()
         wanted = {"1.xml": "applied", "2.xml": "quarantined", "3.xml": "new"}
         yield Outcome(f"{number}: in its turn", (inbox.states(), price_of(inbox, "R1")), (wanted, "4.500"))
-        inbox.work(lambda each: decide.decide(each, "let-in", each.ledger.files("state = 'quarantined'")[0].mark))
+        inbox.decide("let-in", "quarantined")
         inbox.run()
         found = price_of(inbox, "R1"), inbox.states()["3.xml"], [*inbox.series.had]
         yield Outcome(f"{number}: let in", found, ("1000.000", "quarantined", [1, 2]))
@@ -121,11 +116,10 @@ def numbered_anew(room: Room) -> Iterator[Outcome]:
     inbox = inbox_in(room, "anew", number=NEXT)
     inbox.series.parties = (*SENDER, *ADDRESSEE)
     for place, price in (1, "4.50"), (2, "1000.00"), (3, "4.60"):
-        inbox.send(f"{place}.xml", feed_of(place, {f"R{each}": price for each in range(12)}))
-        inbox.run()
+        inbox.take(f"{place}.xml", feed_of(place, {f"R{each}": price for each in range(12)}))
     inbox.series.parties = (*SENDER, "", "")
     inbox.run()
-    inbox.work(lambda each: decide.decide(each, "refuse", each.ledger.files("state = 'quarantined'")[0].mark))
+    inbox.decide("refuse", "quarantined")
     inbox.run()
     yield Outcome("the next number", ([*inbox.series.had], price_of(inbox, "R1")), ([1, 2], "4.600"))
     for parties in (*SENDER, *ADDRESSEE), (*SENDER, "", ""):

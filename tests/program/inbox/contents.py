@@ -7,7 +7,6 @@ import zipfile
 from collections.abc import Iterator
 from dataclasses import replace
 
-from onixdesk_shop.inbox import decide
 from onixdesk_shop.settings import NEXT
 from tests.program.room import Room
 from tests.running import Outcome
@@ -32,10 +31,9 @@ def packed_again(room: Room) -> Iterator[Outcome]:
     """A packed feed is taken again with other terms as any other is."""
     inbox = FakeInbox(room.folder, room.program, number=NEXT)
     inbox.terms = TERMS.encode()
-    inbox.send("packed.gz", gzip.compress(feed(None, [Book(1)]).encode()))
-    inbox.run()
+    inbox.take("packed.gz", gzip.compress(feed(None, [Book(1)]).encode()))
     inbox.terms = TERMS.replace("4.25", "42.5").encode()
-    inbox.work(lambda each: decide.decide(each, "again", each.ledger.files("1")[0].mark))
+    inbox.decide("again", "packed.gz")
     inbox.run()
     nets = [[record[2] for record in inbox.series.had[number] if record[:2] == ("Price", "05")] for number in (1, 2)]
     yield Outcome("10.00 less 4.25 and 42.5 percent", nets, [["9.580"], ["5.750"]])
@@ -47,8 +45,7 @@ def one_supplier(room: Room) -> Iterator[Outcome]:
     form = "<SupplierIdentifier><SupplierIDType>06</SupplierIDType><IDValue>{}</IDValue></SupplierIdentifier>"
     own, other = (f"</SupplierRole>{form.format(value)}" for value in (SENDER[1], "4012345000010"))
     text = feed(1, [Book(1, "10.00"), Book(2, "20.00")]).replace("</SupplierRole>", own, 1)
-    inbox.send("mixed.xml", text.replace("</SupplierRole><SupplierName>", f"{other}<SupplierName>"))
-    inbox.run()
+    inbox.take("mixed.xml", text.replace("</SupplierRole><SupplierName>", f"{other}<SupplierName>"))
     yield Outcome("its prices", [record[2] for record in inbox.series.had[1] if record[0] == "Price"], ["10.000"])
     inbox.send("others.xml", feed(2, [Book(3)]).replace("</SupplierRole>", other))
     yield Outcome("none of its own", (len(inbox.run()), inbox.states()["others.xml"]), (1, "quarantined"))
@@ -74,8 +71,7 @@ def malformed(room: Room) -> Iterator[Outcome]:
     inbox.send("first.csv", message_of(1, products))
     for name, (right, wrong) in MALFORMED.items():
         inbox.send(f"{name}.csv", second.replace(right, wrong, 1))
-    inbox.send("second.csv", second)
-    inbox.run()
+    inbox.take("second.csv", second)
     taken = {name for name, state in inbox.states().items() if state == "applied"}
     yield Outcome("taken", taken, {"first.csv", "second.csv"})
     why = {file.name: file.why for file in inbox.files() if file.state == "refused"}
@@ -97,8 +93,7 @@ def of_the_program(room: Room) -> Iterator[Outcome]:
     inbox.send("packed.zip", zipped("a.xml"))
     inbox.send("two.zip", zipped("a.xml", "b.xml"))
     inbox.send("wide.xml", ('<?xml version="1.0" encoding="utf-16"?>' + feed(4, [Book(4)])).encode("utf-16"))
-    inbox.send("crowded.xml", feed(5, [replace(Book(5), reference=f"X{number}") for number in range(1001)]))
-    inbox.run()
+    inbox.take("crowded.xml", feed(5, [replace(Book(5), reference=f"X{number}") for number in range(1001)]))
     good = {"good.csv", "packed.gz", "packed.zip", "wide.xml"}
     yield Outcome("taken", {name for name, state in inbox.states().items() if state == "applied"}, good)
     yield Outcome("refused", {state for name, state in inbox.states().items() if name not in good}, {"refused"})
@@ -108,8 +103,7 @@ def of_the_program(room: Room) -> Iterator[Outcome]:
     os.symlink("/etc/passwd", inbox.incoming / "link.xml")
     for name in ("pipe.xml", "link.xml"):
         os.utime(inbox.incoming / name, (inbox.clock, inbox.clock), follow_symlinks=False)
-    inbox.send("unknown.txt", "")
-    inbox.run()
+    inbox.take("unknown.txt", "")
     inbox.clock += 30 * DAY
     said = [line for line in inbox.run() if line.startswith("not taken")]
     yield Outcome("not taken, told once", (len(said), [line for line in inbox.run() if "taken" in line]), (3, []))

@@ -38,17 +38,14 @@ def order(room: Room) -> Iterator[Outcome]:
     """Files are judged in the order of their server's times, whatever they are named."""
     inbox = inbox_in(room, "names", number=NEXT)
     inbox.send("delta-10.xml", feed_of(None, {"R1": "10.00"}), START - 100)
-    inbox.send("delta-9.xml", feed_of(None, {"R1": "9.00"}), START - 200)
-    inbox.run()
+    inbox.take("delta-9.xml", feed_of(None, {"R1": "9.00"}), START - 200)
     yield Outcome("by their times", price_of(inbox, "R1"), "10.000")
-    inbox.send("late.xml", feed_of(None, {"R1": "8.00"}), START - 300)
-    inbox.run()
+    inbox.take("late.xml", feed_of(None, {"R1": "8.00"}), START - 300)
     yield Outcome(
         "older than the last one", (inbox.states()["late.xml"], price_of(inbox, "R1")), ("quarantined", "10.000")
     )
-    inbox.work(lambda each: decide.decide(each, "refuse", each.ledger.files("state = 'quarantined'")[0].mark))
-    inbox.send("twice.xml", feed_of(None, {"R1": "10.00"}))
-    lines = inbox.run()
+    inbox.decide("refuse", "quarantined")
+    lines = inbox.take("twice.xml", feed_of(None, {"R1": "10.00"}))
     yield Outcome(
         "the same bytes", (len(inbox.series.had), [line.partition(":")[0] for line in lines]), (2, ["had it already"])
     )
@@ -58,8 +55,7 @@ def order_without_ledger(room: Room) -> Iterator[Outcome]:
     """A file that the store has keeps its time, also where its row is lost and it comes again."""
     inbox = inbox_in(room, "lost")
     inbox.desk, desk = None, inbox.desk
-    inbox.send("a.xml", feed_of(1, {"R1": "1.00"}))
-    inbox.run()
+    inbox.take("a.xml", feed_of(1, {"R1": "1.00"}))
     inbox.ledger.unlink()
     for amount in "2.00", "1.00":
         inbox.send(f"{amount}.xml", feed_of(1, {"R1": amount}))
@@ -72,14 +68,10 @@ def order_of_one_number(room: Room) -> Iterator[Outcome]:
     """Of files of one number the first has it once it is free, also where that comes again behind the others."""
     inbox = inbox_in(room, "one")
     for amount in "1.00", "2.00", "3.00":
-        inbox.send(f"{amount}.xml", feed_of(1, {"R1": amount}))
-        inbox.run()
-    inbox.work(
-        lambda each: decide.decide(each, "refuse", each.ledger.files("state = 'held' OR state = 'applied'")[0].mark)
-    )
+        inbox.take(f"{amount}.xml", feed_of(1, {"R1": amount}))
+    inbox.decide("refuse", "applied")
     inbox.series.had.clear()
-    inbox.send("again.xml", feed_of(1, {"R1": "2.00"}))
-    inbox.run()
+    inbox.take("again.xml", feed_of(1, {"R1": "2.00"}))
     yield Outcome("the first one", price_of(inbox, "R1"), "2.000")
 
 
@@ -87,25 +79,20 @@ def numbers(room: Room) -> Iterator[Outcome]:
     """Which number a file gets where the inbox gives it."""
     inbox = inbox_in(room, "others", number=NEXT, words=("--parts", "2"))
     inbox.series.had[1] = inbox.series.had[2] = inbox.series.had[3] = ()
-    inbox.send("a.xml", feed_of(None, {"R1": "1.00"}))
-    inbox.run()
+    inbox.take("a.xml", feed_of(None, {"R1": "1.00"}))
     yield Outcome("behind all that the desk has, a whole group", sorted(inbox.series.had), [1, 2, 3, 5, 6])
     inbox = inbox_in(room, "first", number=NEXT)
     inbox.series.first = 500
-    inbox.send("a.xml", feed_of(None, {"R1": "1.00"}))
-    inbox.run()
+    inbox.take("a.xml", feed_of(None, {"R1": "1.00"}))
     yield Outcome("the first", sorted(inbox.series.had), [500])
     assert inbox.desk
     old = FakeDesk()
     old.series[SERIES] = Series((*SENDER, "", ""), 500)
-    inbox.send("b.xml", feed_of(None, {"R1": "2.00"}))
-    inbox.run()
+    inbox.take("b.xml", feed_of(None, {"R1": "2.00"}))
     inbox.desk = old
-    inbox.send("c.xml", feed_of(None, {"R1": "3.00"}))
-    inbox.run()
+    inbox.take("c.xml", feed_of(None, {"R1": "3.00"}))
     yield Outcome("a desk of before", (sorted(inbox.series.had), price_of(inbox, "R1")), ([500, 501, 502], "3.000"))
-    mark = next(file.mark for file in inbox.files() if file.name == "c.xml")
-    inbox.work(lambda each: decide.decide(each, "refuse", mark))
+    inbox.decide("refuse", "c.xml")
     inbox.run()
     yield Outcome("refused, it stays at the desk", price_of(inbox, "R1"), "3.000")
     inbox.desk = old = FakeDesk()
@@ -114,9 +101,7 @@ def numbers(room: Room) -> Iterator[Outcome]:
     yield Outcome(
         "and is waived once the desk lacks it", (inbox.series.had[502], price_of(inbox, "R1")), (WAIVED, "2.000")
     )
-    inbox.work(
-        lambda each: decide.decide(each, "again", next(file.mark for file in each.ledger.files("name = 'a.xml'")))
-    )
+    inbox.decide("again", "a.xml")
     inbox.run()
     yield Outcome("taken again", (sorted(inbox.series.had), price_of(inbox, "R1")), ([500, 501, 502, 503], "1.000"))
 
@@ -125,15 +110,12 @@ def texts(room: Room) -> Iterator[Outcome]:
     """A number that comes again is converted as it was first."""
     inbox = inbox_in(room, "terms")
     inbox.terms = b"50"
-    inbox.send("a.xml", feed_of(1, {"R1": "1.00"}))
-    inbox.run()
+    inbox.take("a.xml", feed_of(1, {"R1": "1.00"}))
     inbox.terms = b"60"
-    inbox.send("resent.xml", feed_of(1, {"R1": "1.00"}, sent="again"))
-    inbox.run()
+    inbox.take("resent.xml", feed_of(1, {"R1": "1.00"}, sent="again"))
     yield Outcome("the same contents", inbox.states()["resent.xml"], "had")
     yield Outcome("an older table", inbox.shown()["older_terms"], 1)
-    inbox.send("other.xml", feed_of(1, {"R1": "2.00"}))
-    lines = inbox.run()
+    lines = inbox.take("other.xml", feed_of(1, {"R1": "2.00"}))
     yield Outcome("others", inbox.states()["other.xml"], "refused")
     why = "the desk has another message of number 1; a correction needs a number of its own; other.xml"
     yield Outcome("the line", lines[0].partition("refused: ")[2], why)
@@ -145,22 +127,19 @@ def texts(room: Room) -> Iterator[Outcome]:
 def gone(room: Room) -> Iterator[Outcome]:
     """What is not kept any more, and what the desk has not agreed."""
     inbox = inbox_in(room, "texts")
-    inbox.send("a.xml", feed_of(1, {"R1": "1.00"}))
-    inbox.run()
+    inbox.take("a.xml", feed_of(1, {"R1": "1.00"}))
     inbox.clock += 121 * DAY
     inbox.run()
     kept = inbox.work(lambda each: each.ledger.value("SELECT min(number) FROM message WHERE text IS NOT NULL"))
     yield Outcome("a clock of later takes nothing away", (kept, len(os.listdir(inbox.store))), (1, 1))
     before = keeping.KEPT_FILES, keeping.KEPT_NUMBERS
     keeping.KEPT_FILES = keeping.KEPT_NUMBERS = 0
-    inbox.send("b.xml", feed_of(2, {"R1": "2.00"}))
-    inbox.run()
+    inbox.take("b.xml", feed_of(2, {"R1": "2.00"}))
     kept = [file.name for file in inbox.files() if (inbox.store / f"{file.digest}.xml").exists()]
     keeping.KEPT_FILES, keeping.KEPT_NUMBERS = before
     yield Outcome("bytes are kept for 120 days", kept, ["b.xml"])
     inbox.series.had.clear()
-    inbox.send("c.xml", feed_of(3, {"R1": "3.00"}))
-    lines = inbox.run()
+    lines = inbox.take("c.xml", feed_of(3, {"R1": "3.00"}))
     yield Outcome("nothing is posted", (inbox.series.had, inbox.states()["c.xml"]), ({}, "new"))
     (line,) = [line for line in lines if "number 1" in line]
     command, _, why = line.partition("; ")
@@ -185,24 +164,20 @@ def gone_with_the_machine(room: Room) -> Iterator[Outcome]:
         "1-other.csv": message_of(1, [product_of("R1", "2.00", None)]).encode(),
         "1-other.xml": feed_of(1, {"R1": "3.00"}),
     }.items():
-        inbox.send(name, data)
-        inbox.run()
+        inbox.take(name, data)
     for path in inbox.store.iterdir():
         path.unlink()
     inbox.settings = replace(inbox.settings, silent_days=5)
-    inbox.send("2.xml", feed_of(2, {"R1": "2.00"}))
-    lines = inbox.run()
+    lines = inbox.take("2.xml", feed_of(2, {"R1": "2.00"}))
     wanted = {"1.xml": "applied", "1-other.csv": "refused", "1-other.xml": "refused", "2.xml": "applied"}
     yield Outcome("the states", inbox.states(), wanted)
     yield Outcome("the lines", sum("its bytes are not kept any more" in line for line in lines), 2)
     inbox = inbox_in(room, "not agreed")
     parties, inbox.series.parties = inbox.series.parties, ("06", "5012345678900", "", "")
-    inbox.send("1.xml", feed_of(1, {"R1": "1.00"}))
-    inbox.run()
+    inbox.take("1.xml", feed_of(1, {"R1": "1.00"}))
     next(inbox.store.iterdir()).unlink()
     inbox.settings = replace(inbox.settings, silent_days=5)
-    inbox.send("1-other.xml", feed_of(1, {"R1": "2.00"}))
-    inbox.run()
+    inbox.take("1-other.xml", feed_of(1, {"R1": "2.00"}))
     inbox.series.parties = parties
     inbox.run()
     yield Outcome("its number is free", inbox.states(), {"1.xml": "refused", "1-other.xml": "applied"})
@@ -219,8 +194,7 @@ def renewed(room: Room) -> Iterator[Outcome]:
     inbox.send("1-again.xml", feed_of(1, {"R1": "1.00"}))
     inbox.send("2-resent.xml", feed_of(2, {"R1": "2.00"}, sent="again"))
     inbox.send("2-other.xml", feed_of(2, {"R1": "9.00"}))
-    inbox.send("0.xml", feed_of(4, {"R1": "4.00"}))
-    inbox.run()
+    inbox.take("0.xml", feed_of(4, {"R1": "4.00"}))
     states = inbox.states()
     yield Outcome(
         "the same bytes, the same contents", (states["1-again.xml"], states["2-resent.xml"]), ("applied", "had")
@@ -233,26 +207,20 @@ def asked(room: Room) -> Iterator[Outcome]:
     """What the ledger tells."""
     inbox = inbox_in(room, "asked")
     inbox.send("a.xml", feed_of(1, {"R1": "1.00"}))
-    inbox.send("b.xml", feed_of(2, {"R2": "1.00"}))
-    inbox.run()
+    inbox.take("b.xml", feed_of(2, {"R2": "1.00"}))
     for name, words in {
         "number": (1, None, None),
         "isbn": (None, isbn_of("R1"), None),
         "file": (None, None, "a.xml"),
     }.items():
-        machine = inbox.machine()
-        inbox.work(lambda each: show.show(each, *words), machine)
-        yield Outcome(name, "a.xml" in machine.written and "b.xml" not in machine.written, True)
-    machine = inbox.machine()
-    inbox.work(report.report, machine)
-    yield Outcome("report", "next: 3" in machine.written, True)
+        said = inbox.says(lambda each: show.show(each, *words))
+        yield Outcome(name, "a.xml" in said and "b.xml" not in said, True)
+    yield Outcome("report", "next: 3" in inbox.says(report.report), True)
     room.path("fetch").mkdir()
     for value in ("no", "yes"):
         room.write("fetch/north.env", f"FROM=north:\nUNVERIFIED={value}\n".encode())
-        machine = inbox.machine()
         with patch.object(report, "FETCH_SETTINGS", room.path("fetch")):
-            inbox.work(report.report, machine)
-        is_said = "anybody on the way to that server can change a feed" in machine.written
+            is_said = "anybody on the way to that server can change a feed" in inbox.says(report.report)
         yield Outcome(f"report: a server that nobody verifies: {value}", is_said, value == "yes")
 
 
@@ -260,10 +228,8 @@ def begins_again(room: Room) -> Iterator[Outcome]:
     """A newer file of number 1, whose contents are others, is refused with the setting by which it is taken."""
     inbox = inbox_in(room, "again")
     for number in (1, 2, 3):
-        inbox.send(f"{number}.xml", feed_of(number, {"R1": f"{number}.00"}))
-        inbox.run()
-    inbox.send("new.xml", feed_of(1, {"R1": "9.00"}))
-    (line,) = inbox.run()
+        inbox.take(f"{number}.xml", feed_of(number, {"R1": f"{number}.00"}))
+    (line,) = inbox.take("new.xml", feed_of(1, {"R1": "9.00"}))
     yield Outcome("the setting", line.partition(";")[0], "if it begins again at 1: WORDS=--number-offset 3")
     inbox.send("2.xml", feed_of(2, {"R1": "9.00"}))
     yield Outcome("another one that was had", "begins again" in "".join(inbox.run()), False)
@@ -279,11 +245,9 @@ def said_of_products(room: Room) -> Iterator[Outcome]:
     """What several suppliers offer, and an update of what the desk has not, is a warning."""
     inbox = inbox_in(room, "said")
     records = message_of(1, [product_of("R1", "1.00", None) + [["SupplyDetail", "04", "", "", "South", "21", ""]]])
-    inbox.send("two.csv", records)
-    lines = inbox.run()
+    lines = inbox.take("two.csv", records)
     yield Outcome("several suppliers", lines[0].partition(":")[0], "2 suppliers")
-    inbox.send("gone.csv", message_of(2, [product_of("R2", "-", None)]))
-    lines = inbox.run()
+    lines = inbox.take("gone.csv", message_of(2, [product_of("R2", "-", None)]))
     yield Outcome("what is not there", lines[0].partition(":")[0], "1 change of what the desk has not")
 
 
@@ -292,16 +256,13 @@ def returned(room: Room) -> Iterator[Outcome]:
     inbox = inbox_in(room, "returned", number=NEXT)
     assert inbox.desk
     with patch.object(inbox.desk, "deliver", lambda _: ["refused", "malformed", "1"]):
-        inbox.send("a.xml", feed_of(None, {"R1": "1.00"}))
-        inbox.run()
+        inbox.take("a.xml", feed_of(None, {"R1": "1.00"}))
     yield Outcome("refused by the desk", (inbox.states()["a.xml"], inbox.series.had), ("refused", {}))
     before = inbox.desk.copy()
     for name, amount in ("b.xml", "2.00"), ("c.xml", "3.00"):
-        inbox.send(name, feed_of(None, {"R1": amount}))
-        inbox.run()
+        inbox.take(name, feed_of(None, {"R1": amount}))
     texts, inbox.desk = inbox.series.had, before
-    inbox.send("a.xml", feed_of(None, {"R1": "1.00"}))
-    inbox.run()
+    inbox.take("a.xml", feed_of(None, {"R1": "1.00"}))
     yield Outcome("each number has its text", [inbox.series.had[number] for number in texts], [*texts.values()])
     yield Outcome("put there again", (sorted(inbox.series.had), price_of(inbox, "R1")), ([1, 2, 3], "1.000"))
     inbox = inbox_in(room, "half", number=NEXT, words=("--parts", "2"))
@@ -309,15 +270,13 @@ def returned(room: Room) -> Iterator[Outcome]:
     deliver, before = inbox.desk.deliver, inbox.desk.copy()
     refused = ["refused", "malformed", "1"]
     with patch.object(inbox.desk, "deliver", lambda message: deliver(message) if message[0][6] == "1" else refused):
-        inbox.send("a.xml", feed_of(None, {"R1": "1.00"}))
-        inbox.run()
+        inbox.take("a.xml", feed_of(None, {"R1": "1.00"}))
     texts, inbox.desk = inbox.series.had, before
     inbox.settings = replace(inbox.settings, words=())
-    inbox.send("b.xml", feed_of(None, {"R1": "2.00"}))
-    inbox.run()
+    inbox.take("b.xml", feed_of(None, {"R1": "2.00"}))
     yield Outcome("a number that the desk took is not given back", inbox.series.had[1], texts[1])
     yield Outcome("nor is that of its other half", sorted(inbox.series.had), [1, 3])
-    inbox.work(lambda each: decide.decide(each, "refuse", each.ledger.files("name = 'a.xml'")[0].mark))
+    inbox.decide("refuse", "a.xml")
     inbox.run()
     yield Outcome("and the other half is waived once a person refused the file", inbox.series.had.get(2), WAIVED)
 
@@ -325,9 +284,8 @@ def returned(room: Room) -> Iterator[Outcome]:
 def refused(room: Room) -> Iterator[Outcome]:
     """What a person refused is not posted again, also once that is there for which it waited."""
     inbox = inbox_in(room, "refused")
-    inbox.send("2.xml", feed_of(2, {"R1": "1.00"}))
-    inbox.run()
-    inbox.work(lambda each: decide.decide(each, "refuse", each.ledger.files("1")[0].mark))
+    inbox.take("2.xml", feed_of(2, {"R1": "1.00"}))
+    inbox.decide("refuse", "2.xml")
     inbox.send("1.xml", feed_of(1, {"R2": "1.00"}))
     machine = inbox.machine()
     inbox.run(machine)
@@ -337,18 +295,15 @@ def refused(room: Room) -> Iterator[Outcome]:
     machine = FakeMachine(inbox.disk, inbox.desk, inbox.clock, ("kill", "answered", 3))
     with contextlib.suppress(Killed):
         inbox.run(machine)
-    inbox.work(lambda each: decide.decide(each, "refuse", each.ledger.files("1")[0].mark))
-    inbox.send("1-other.xml", feed_of(1, {"R1": "2.00"}))
-    inbox.run()
+    inbox.decide("refuse", "1.xml")
+    inbox.take("1-other.xml", feed_of(1, {"R1": "2.00"}))
     state = inbox.work(lambda each: each.ledger.value("SELECT state FROM message WHERE number = 1"))
     wanted = {"1.xml": "rejected", "1-other.xml": "refused"}
     yield Outcome("a text without an answer", (inbox.states(), state), (wanted, "posted"))
     inbox = inbox_in(room, "parts", words=("--parts", "5"))
-    inbox.send("far.xml", feed_of(1000, {"R1": "1.00"}))
-    inbox.run()
-    machine = inbox.machine()
-    inbox.work(lambda each: decide.decide(each, "refuse", each.ledger.files("1")[0].mark), machine)
-    yield Outcome("all numbers of its parts", "waive north 4996-5000; " in machine.written, True)
+    inbox.take("far.xml", feed_of(1000, {"R1": "1.00"}))
+    said = inbox.decide("refuse", "far.xml")
+    yield Outcome("all numbers of its parts", "waive north 4996-5000; " in said, True)
 
 
 def check_that_dies(room: Room) -> Iterator[Outcome]:
@@ -372,11 +327,9 @@ def halves(room: Room) -> Iterator[Outcome]:
     assert inbox.desk
     deliver, refused = inbox.desk.deliver, ["refused", "malformed", "1"]
     with patch.object(inbox.desk, "deliver", lambda message: deliver(message) if message[0][6] == "1" else refused):
-        inbox.send("a.xml", feed_of(1, {"R1": "1.00", "R2": "1.00"}))
-        inbox.run()
+        inbox.take("a.xml", feed_of(1, {"R1": "1.00", "R2": "1.00"}))
     for name, amounts in ("other.xml", ("2.00", "2.00")), ("same.xml", ("1.00", "2.00")):
-        inbox.send(name, feed_of(1, dict(zip(["R1", "R2"], amounts))))
-        inbox.run()
+        inbox.take(name, feed_of(1, dict(zip(["R1", "R2"], amounts))))
     wanted = {"a.xml": "refused", "other.xml": "refused", "same.xml": "applied"}
     yield Outcome("another, and the same", (inbox.states(), price_of(inbox, "R2")), (wanted, "2.000"))
 
@@ -407,8 +360,7 @@ def waived_half(room: Room) -> Iterator[Outcome]:
     before = inbox.desk.copy()
     inbox.work(lambda each: decide.waive(each, [2]))
     inbox.run()
-    inbox.send("1.xml", feed_of(1, {"R1": "1.00", "R2": "2.00"}))
-    inbox.run()
+    inbox.take("1.xml", feed_of(1, {"R1": "1.00", "R2": "2.00"}))
     yield Outcome("its other part alone", (inbox.states(), price_of(inbox, "R2")), ({"1.xml": "refused"}, ""))
     inbox.work(lambda each: decide.take_back(each, [2]))
     yield Outcome("taken back again", inbox.work(lambda each: decide.take_back(each, [2])), 0)
@@ -429,8 +381,7 @@ def waived_before(room: Room) -> Iterator[Outcome]:
         waived = inbox.desk
         inbox.work(lambda each: decide.take_back(each, [number]))
         inbox.desk = before.copy()
-        inbox.send("a.xml", feed_of(number, {"R1": "1.00"}))
-        inbox.run()
+        inbox.take("a.xml", feed_of(number, {"R1": "1.00"}))
         had = inbox.series.had[number]
         yield Outcome(f"{state}: it came", (inbox.states(), inbox.run()), ({"a.xml": state}, []))
         inbox.desk = waived
@@ -447,10 +398,8 @@ def waived_before(room: Room) -> Iterator[Outcome]:
 def endings(room: Room) -> Iterator[Outcome]:
     """A file that came under a wrong ending is put there again under the right one."""
     inbox = inbox_in(room, "ending")
-    inbox.send("a.csv", feed_of(1, {"R1": "1.00"}))
-    inbox.run()
-    inbox.send("a.xml", feed_of(1, {"R1": "1.00"}))
-    inbox.run()
+    inbox.take("a.csv", feed_of(1, {"R1": "1.00"}))
+    inbox.take("a.xml", feed_of(1, {"R1": "1.00"}))
     yield Outcome("by its new ending", inbox.states(), {"a.xml": "applied"})
     yield Outcome("the old one is gone", len(os.listdir(inbox.store)), 1)
 
@@ -472,8 +421,7 @@ def left(room: Room) -> Iterator[Outcome]:
 def lacking(room: Room) -> Iterator[Outcome]:
     """What the desk lacks and cannot have again waits, for whoever looks at the page."""
     inbox = inbox_in(room, "lacking")
-    inbox.send("1.xml", feed_of(1, {"R1": "1.00"}))
-    inbox.run()
+    inbox.take("1.xml", feed_of(1, {"R1": "1.00"}))
     yield Outcome("it has all", inbox.shown()["waiting"], 0)
     inbox.series.had.clear()
     inbox.work(lambda each: each.ledger.do("UPDATE message SET text = NULL"))
@@ -485,8 +433,7 @@ def unforeseen(room: Room) -> Iterator[Outcome]:
     """What nobody foresaw of a file stops the series with a line, and never passes."""
     for name, error in ("mistake", ValueError("no digit")), ("child", BadEnd("onixdesk was killed by signal 9")):
         inbox = inbox_in(room, name)
-        inbox.send("1.xml", feed_of(1, {"R1": "1.00"}))
-        inbox.run()
+        inbox.take("1.xml", feed_of(1, {"R1": "1.00"}))
         inbox.send("2.xml", feed_of(2, {"R1": "2.00"}))
         with patch("onixdesk_shop.inbox.quarantine.look_at", side_effect=error):
             lines = inbox.run()

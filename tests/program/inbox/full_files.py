@@ -3,7 +3,7 @@
 from collections.abc import Iterator
 from typing import Any
 
-from onixdesk_shop.inbox import decide, report
+from onixdesk_shop.inbox import report
 from onixdesk_shop.settings import NEXT
 from tests.program.room import Room
 from tests.running import Outcome
@@ -19,8 +19,7 @@ def books(*numbers: int) -> Prices:
 
 def send_all(inbox: FakeInbox, **files: Prices) -> None:
     for name, products in files.items():
-        inbox.send(f"{name}.xml", feed_of(None, products, sent=name))
-        inbox.run()
+        inbox.take(f"{name}.xml", feed_of(None, products, sent=name))
 
 
 def named(inbox: FakeInbox) -> list[str]:
@@ -47,7 +46,7 @@ def deleted(room: Room) -> Iterator[Outcome]:
     inbox = inbox_in(room, "let in", full=1, stop=False)
     send_all(inbox, a=books(*range(60)), b=books(*range(40)))
     yield Outcome("too many, whatever STOP says", inbox.states()["b.xml"], "quarantined")
-    inbox.work(lambda each: decide.decide(each, "let-in", each.ledger.files("state = 'quarantined'")[0].mark))
+    inbox.decide("let-in", "quarantined")
     inbox.run()
     yield Outcome("let in", len(named(inbox)), 40)
 
@@ -56,40 +55,29 @@ def not_deleted(room: Room) -> Iterator[Outcome]:
     room.path("missing").mkdir()
     inbox = FakeInbox(room.path("missing"), full=1)
     inbox.send("1.xml", feed_of(1, books(1, 2)))
-    inbox.send("3.xml", feed_of(3, books(2)))
-    inbox.run()
-    inbox.send("2.xml", feed_of(2, books(1, 2, 3)))
-    inbox.run()
+    inbox.take("3.xml", feed_of(3, books(2)))
+    inbox.take("2.xml", feed_of(2, books(1, 2, 3)))
     yield Outcome("a number is missing below", named(inbox), ["B1", "B2", "B3"])
     inbox = inbox_in(room, "left out", full=1)
     said = "onixdesk: Product left out: no RecordReference: 1\n"
-    inbox.send("a.xml", feed_of(None, books(1, 2)))
-    inbox.run()
+    inbox.take("a.xml", feed_of(None, books(1, 2)))
     told = []
     for name in ("b", "c", "d"):
         inbox.send(f"{name}.xml", feed_of(None, books(2), sent=name, said=said))
         told += [line for line in inbox.run() if "in a row" in line]
     yield Outcome("a product was left out", named(inbox), ["B1", "B2"])
     yield Outcome("told", told, ["3 full files in a row deleted nothing: the converter left a product out"])
-    machine = inbox.machine()
-    inbox.work(report.report, machine)
-    yield Outcome(
-        "what the last one did not name", "1 article not named since number 4\n  B1\n" in machine.written, True
-    )
+    found = "1 article not named since number 4\n  B1\n" in inbox.says(report.report)
+    yield Outcome("what the last one did not name", found, True)
 
 
 def of_a_resend(room: Room) -> Iterator[Outcome]:
     room.path("resend").mkdir()
     inbox = FakeInbox(room.path("resend"), full=1)
-    inbox.send("1.xml", feed_of(1, books(1, 2)))
-    inbox.run()
-    inbox.send("2.xml", feed_of(2, books(2)))
-    inbox.run()
-    inbox.send("2-again.xml", feed_of(2, books(2), sent="again"))
-    inbox.run()
+    inbox.take("1.xml", feed_of(1, books(1, 2)))
+    inbox.take("2.xml", feed_of(2, books(2)))
+    inbox.take("2-again.xml", feed_of(2, books(2), sent="again"))
     yield Outcome("had", (inbox.states()["2-again.xml"], named(inbox)), ("had", ["B2"]))
     for days, wanted in (6, "1 article deleted in seven days"), (2, "0 articles deleted in seven days"):
         inbox.clock += days * 86_400
-        machine = inbox.machine()
-        inbox.work(report.report, machine)
-        yield Outcome(wanted, f"\n{wanted}\n" in machine.written, True)
+        yield Outcome(wanted, f"\n{wanted}\n" in inbox.says(report.report), True)

@@ -61,15 +61,14 @@ def names_of_others(room: Room) -> Iterator[Outcome]:
 
 def of_a_refused_file(room: Room) -> Iterator[Outcome]:
     inbox = inbox_in(room, "refused")
-    inbox.send("-b\n.xml", b"<cut")
-    said = inbox.run()
+    said = inbox.take("-b\n.xml", b"<cut")
     mark = inbox.files()[0].mark
     wanted = (
         f"onixdesk-inbox --dismiss {mark} north; refused: line 1, column 1: the XML is not well-formed; '-b\\n.xml'"
     )
     yield Outcome("a refused file", said, [wanted])
     yield Outcome("counted", inbox.shown()["refused"], 1)
-    inbox.work(lambda each: decide.decide(each, "dismiss", mark))
+    inbox.decide("dismiss", "refused")
     inbox.run()
     yield Outcome("dismissed", inbox.shown()["refused"], 0)
 
@@ -77,8 +76,7 @@ def of_a_refused_file(room: Room) -> Iterator[Outcome]:
 def what_is_told_once(room: Room) -> Iterator[Outcome]:
     inbox = inbox_in(room, "once")
     inbox.send("1.xml", feed_of(1, {"R1": "1.00"}))
-    inbox.send("9.xml", feed_of(9, {}))
-    inbox.run()
+    inbox.take("9.xml", feed_of(9, {}))
     inbox.clock += 2 * DAY
     said = inbox.run()
     yield Outcome("a missing number", said[0].partition(";")[0], "onixdesk-inbox waive north 2 (or have it sent again)")
@@ -96,15 +94,10 @@ def refused_by_a_person(room: Room) -> Iterator[Outcome]:
     """What waits behind a refused number says so, and the command that was printed takes it on."""
     inbox = inbox_in(room, "person")
     inbox.send("1.xml", feed_of(1, {"R1": "1.00"}))
-    inbox.send("2.xml", feed_of(2, {}, said=NEITHER))
-    inbox.run()
-    mark = next(file.mark for file in inbox.files() if file.state == "quarantined")
-    machine = inbox.machine()
-    inbox.work(lambda each: decide.decide(each, "refuse", mark), machine)
+    inbox.take("2.xml", feed_of(2, {}, said=NEITHER))
     command = "onixdesk-inbox waive north 2"
-    yield Outcome("it says what comes next", machine.written.count(command), 1)
-    inbox.send("3.xml", feed_of(3, {"R1": "3.00"}))
-    inbox.run()
+    yield Outcome("it says what comes next", inbox.decide("refuse", "quarantined").count(command), 1)
+    inbox.take("3.xml", feed_of(3, {"R1": "3.00"}))
     yield Outcome("the next one waits, and is counted", (states(inbox), inbox.shown()["waiting"]), (["held"], 1))
     inbox.work(lambda each: decide.waive(each, numbers_word(command.split()[-1])))
     inbox.run()

@@ -4,7 +4,6 @@ from collections.abc import Iterator
 from dataclasses import replace
 from typing import Any
 
-from onixdesk_shop.inbox.decide import decide
 from tests.program.room import Room
 from tests.running import Outcome
 from tests.shop.feeds import Book, feed
@@ -60,10 +59,8 @@ def behind_a_first_feed(
     inbox = FakeInbox(folder, room.program, **settings)
     inbox.shop = inbox.shop if has_shop else None
     inbox.places.rules.write_text(RULES)
-    inbox.send("first.xml", feed(1, BOOKS))
-    inbox.run()
-    inbox.send("second.xml", feed(2, books, extra="" if books else "<NoProduct/>"))
-    inbox.run()
+    inbox.take("first.xml", feed(1, BOOKS))
+    inbox.take("second.xml", feed(2, books, extra="" if books else "<NoProduct/>"))
     return inbox, inbox.states()["second.xml"]
 
 
@@ -84,13 +81,10 @@ def without_desk_json(room: Room) -> Iterator[Outcome]:
 def few_deletions_of_many(room: Room) -> Iterator[Outcome]:
     inbox = FakeInbox(room.folder, room.program)
     books = [Book(number) for number in range(300)]
-    inbox.send("first.xml", feed(1, books))
-    inbox.run()
-    inbox.send("second.xml", feed(2, [replace(book, kind="05") for book in books[:40]]))
-    inbox.run()
+    inbox.take("first.xml", feed(1, books))
+    inbox.take("second.xml", feed(2, [replace(book, kind="05") for book in books[:40]]))
     yield Outcome("forty of three hundred", inbox.states()["second.xml"], "applied")
-    inbox.send("third.xml", feed(3, [replace(book, kind="05") for book in books[40:100]]))
-    inbox.run()
+    inbox.take("third.xml", feed(3, [replace(book, kind="05") for book in books[40:100]]))
     yield Outcome("sixty of what is left", inbox.states()["third.xml"], "quarantined")
 
 
@@ -101,13 +95,11 @@ def other_reasons(room: Room) -> Iterator[Outcome]:
     inbox = FakeInbox(room.folder, room.program)
     inbox.send("1.xml", feed(1, []))
     inbox.send("2.xml", feed(102, [], extra="<NoProduct/>"))
-    inbox.send("3.xml", feed(103, [], extra="<NoProduct/>"))
-    inbox.run()
+    inbox.take("3.xml", feed(103, [], extra="<NoProduct/>"))
     yield Outcome("neither a Product nor a NoProduct", inbox.states()["1.xml"], "quarantined")
     yield Outcome("what is behind it waits", inbox.states()["2.xml"], "new")
     yield Outcome("and is counted", (inbox.shown()["waiting"], inbox.shown()["quarantined"]), (2, 1))
-    mark = inbox.files()[0].mark
-    inbox.work(lambda each: decide(each, "let-in", mark))
+    inbox.decide("let-in", "1.xml")
     inbox.run()
     yield Outcome("let in", inbox.states(), {"1.xml": "applied", "2.xml": "held", "3.xml": "quarantined"})
     why = next(file.why for file in inbox.files() if file.name == "3.xml")
@@ -116,7 +108,6 @@ def other_reasons(room: Room) -> Iterator[Outcome]:
     inbox = FakeInbox(room.path("wrong"), room.program, words=("--wrong", "all"))
     books = [*all_with(country="XX")[:11], *all_with(price="12,99")[11:22], *BOOKS[22:]]
     regions = "CountriesIncluded>XX</CountriesIncluded", "RegionsIncluded>ECZ</RegionsIncluded"
-    inbox.send("1.xml", feed(1, books).replace(*regions))
-    inbox.run()
+    inbox.take("1.xml", feed(1, books).replace(*regions))
     wanted = "11 of 40 products are emptied, and 11 wrong"
     yield Outcome("emptied or wrong", inbox.files()[0].why, wanted)

@@ -286,7 +286,8 @@ class Ledger:
         """What is to be posted, in order of numbers: what has no answer yet; what was held, and is no more; and what the
         desk had, and lacks. Nothing of a file that a person refused."""
         query = (
-            f"{ROW} WHERE number >= ? AND (state IN ('ready', 'posted', 'held') OR state = 'applied' AND number >= ?)"
+            f"{ROW} WHERE (state IN ('ready', 'posted') OR state = 'held' AND number >= ?"
+            " OR state = 'applied' AND number >= ?)"
             " AND file NOT IN (SELECT id FROM file WHERE state = 'rejected') ORDER BY number"
         )
         found = (Row(*row) for row in self.rows(query, gaps.first, gaps.next))

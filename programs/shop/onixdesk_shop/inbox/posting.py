@@ -186,17 +186,6 @@ def begin_again(inbox: Inbox, file: File, taken: int = 0) -> None:
         inbox.ledger.set_state(file, State.POSTING)
 
 
-def below_first(inbox: Inbox, gaps: Gaps) -> None:
-    """Refuses what has no answer and a number that the desk does not take any more."""
-    query = "state IN ('ready', 'posted') AND number < ?"
-    for number, file in inbox.ledger.rows(f"SELECT number, file FROM message WHERE {query}", gaps.first):
-        refused = Refused("before-first", {"number": number, "first": gaps.first}, "")
-        row = inbox.ledger.row(number)
-        if row and inbox.ledger.file(file).state != State.REJECTED:
-            with inbox.ledger.step():
-                settle_refused(inbox, row, refused)
-
-
 def settle_rejected(inbox: Inbox, gaps: Gaps) -> None:
     """What a person refused and the desk lacks stands nowhere any more; where the inbox gives the numbers, these are
     waived, so that nothing waits for them."""

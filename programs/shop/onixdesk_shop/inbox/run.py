@@ -39,7 +39,6 @@ def run(inbox: Inbox) -> int:
 def work(inbox: Inbox, gaps: Gaps) -> Gaps:
     posting.settle_rejected(inbox, gaps)
     gaps = posting.waive(inbox, gaps)
-    posting.below_first(inbox, gaps)
     posting.retry_unknown(inbox, gaps)
     posting.post_unwaived(inbox, gaps)
     retry_refused(inbox, gaps)

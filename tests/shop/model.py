@@ -36,6 +36,9 @@ STEPS = "copy copied rename renamed remove removed sync synced write written beg
 # A lost answer of the desk is tried as often as all else.
 STEPS += ["answered"] * len(STEPS)
 
+# Amid which a file may be written over.
+INTAKE = "copy copied rename renamed synced committed remove removed answered".split()
+
 NUMBERS = range(1, 6)
 REFERENCES = [f"R{number}" for number in range(4)]
 MANY = [f"M{number}" for number in range(12)]
@@ -198,8 +201,8 @@ class Model(RuleBasedStateMachine):
         first=small,
         products=small,
         is_cut=st.booleans(),
-        what=st.sampled_from(STEPS),
-        place=st.integers(1, 8),
+        what=st.sampled_from(INTAKE),
+        place=st.integers(1, 2),
     )
     def run_with_upload(
         self, name: str, number: int, first: Any, products: Any, is_cut: bool, what: str, place: int

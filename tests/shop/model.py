@@ -55,6 +55,8 @@ class Sent:
     time: float
     is_whole: bool
     number: int | None
+    # Whether it may have come behind files of a later time.
+    is_late: bool = False
     is_rejected: bool = False
     # The text that it had as a person refused it: it is not posted from then on. (Parts of several feeds may be alike.)
     refused: set[bytes] = field(default_factory=set)
@@ -125,6 +127,7 @@ class Model(RuleBasedStateMachine):
         if (self.inbox.incoming / name).exists():
             self.clean()
         sent = self.put(name, data, is_whole, number, self.inbox.clock + 60 - (100_000 if is_late else 0))
+        sent.is_late |= is_late or sent.is_lost
         if sent.is_lost:
             # What was refused whole is a new file then, if nothing ends the run amid its copy.
             time = (self.inbox.incoming / name).stat().st_mtime
@@ -454,6 +457,7 @@ class Model(RuleBasedStateMachine):
             if file.state == "new":
                 assert first and (file.time, file.name, file.id) > first, file
             assert file.state != "posting", file
+            assert sent.is_late or "older" not in file.why, file
             assert sent.is_whole or file.state not in ("applied", "held", "had"), file
         shown = self.inbox.shown()
         assert shown["waiting"] == sum(file.state in ("new", "posting", "held") for file in files)

@@ -218,8 +218,11 @@ class Model(RuleBasedStateMachine):
         known = set(self.sent)
         self.upload(name, before, not is_cut, of_sender)
         self.run(("meanwhile", what, place), lambda machine: self.put(name, data, True, of_sender, machine.clock))
-        if before != data and digest_of(before) not in known | {file.digest for file in self.inbox.files()}:
-            del self.sent[digest_of(before)]
+        if before != data and digest_of(before) not in known:
+            is_taken = digest_of(before) in {file.digest for file in self.inbox.files()}
+            assert not is_taken or (what, place) not in (("copy", 1), ("copied", 1)), before
+            if not is_taken:
+                del self.sent[digest_of(before)]
 
     @precondition(lambda self: bool(self.is_next))
     @rule(name=names, products=small, place=st.integers(1, 4))

@@ -10,7 +10,7 @@ from tests.program.inbox.files import inbox_in, price_of
 from tests.program.room import Room
 from tests.running import Outcome
 from tests.shop.fake_desk import FakeDesk, Series
-from tests.shop.fake_program import SENDER, feed_of
+from tests.shop.fake_program import SENDER, feed_of, message_of, product_of
 from tests.shop.inboxes import SHOP
 
 ADDRESSEE = "06", "5012345678900"
@@ -26,6 +26,8 @@ def mistyped(room: Room) -> Iterator[Outcome]:
         wanted = {"no series of its sender and addressee is agreed; 1.xml"}
         name = f"{number}, {parts}"
         yield Outcome(f"{name}: no agreement", (said, inbox.shown()["refused"], inbox.run()), (wanted, 1, []))
+        line = f"the desk has another agreement than Agree,north,{','.join(SENDER)},,,1\n"
+        yield Outcome(f"{name}: the report", line in inbox.says(report.report), True)
         inbox.series.parties = (*SENDER, "", "")
         inbox.run()
         found = inbox.states(), price_of(inbox, "R1"), price_of(inbox, "R2")
@@ -36,10 +38,9 @@ def mistyped(room: Room) -> Iterator[Outcome]:
 
 
 # What the report says of an agreement, desk.json or terms that are otherwise than these.
-ALIKE: dict[str, Any] = {"parties": (*SENDER, "", ""), "first": 1, "page": {"name": "north", "parts": 2}, "net": "02"}
+ALIKE: dict[str, Any] = {"first": 1, "page": {"name": "north", "parts": 2}, "net": "02"}
 OTHERWISE: dict[str, dict[str, Any]] = {
     "": {},
-    f"the desk has another agreement than Agree,north,{','.join(SENDER)},,,1": {"parties": (*SENDER, *ADDRESSEE)},
     "no feed of 2 parts begins with the agreed first number, 2": {"first": 2},
     "desk.json: name is none, not north": {"page": {"name": "south", "parts": 2}},
     "desk.json: parts is 1, not 2": {"page": {"name": "north"}},
@@ -54,11 +55,21 @@ def otherwise(room: Room) -> Iterator[Outcome]:
     inbox.take("1.xml", feed_of(1, {"R1": "1.00"}))
     for wanted, given in OTHERWISE.items():
         given = ALIKE | given
-        inbox.series.parties, inbox.series.first = given["parties"], given["first"]
+        inbox.series.first = given["first"]
         inbox.shop = replace(SHOP, given={"series": [given["page"]]})
         inbox.terms = f'term = [{{ net = "{given["net"]}" }}]'.encode()
         found = [*inbox.work(lambda each: [*report.not_alike(each, each.gaps())])]
         yield Outcome(wanted or "nothing", wanted in found if wanted else not found, True)
+
+
+def without_one(room: Room) -> Iterator[Outcome]:
+    """What is to be agreed has the addressee of the first file."""
+    inbox = inbox_in(room, "new")
+    inbox.desk = FakeDesk()
+    yield Outcome("nothing waits", inbox.run(), [])
+    ours, theirs = ",".join([*SENDER, "", ""]), ",".join([*SENDER, *ADDRESSEE])
+    (line,) = inbox.take("1.csv", message_of(1, [product_of("R1", "1.00", None)]).replace(ours, theirs))
+    yield Outcome("its line", (line.partition(";")[0], inbox.run()), (f"Agree,north,{theirs},1", []))
 
 
 def over_a_restored_desk(room: Room) -> Iterator[Outcome]:

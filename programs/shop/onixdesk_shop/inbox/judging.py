@@ -109,6 +109,16 @@ def feed_of(inbox: Inbox, file: File, gaps: Gaps, words: list[str], terms: bytes
     return Feed(file, [message_of(inbox, text) for text in texts], words, terms, said)
 
 
+def agreement(inbox: Inbox, file: File) -> str:
+    """The record by which a series is agreed that has no message yet, with the addressee of a file's."""
+    try:
+        feed = feed_of(inbox, file, Gaps(1, 1, None, ()), list(inbox.settings.words), inbox.terms)
+        addressee = header_of(feed.messages[0].text).addressee
+    except Refusal:
+        addressee = "", ""
+    return inbox.ledger.agreement(inbox.series, inbox.settings.sender, addressee=addressee)
+
+
 def message_of(inbox: Inbox, text: bytes) -> Message:
     """A text that the desk takes, of this wholesaler, with a number. Refusal where it is none."""
     why = check(inbox.machine, inbox.places.program, text)

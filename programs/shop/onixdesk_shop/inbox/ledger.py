@@ -244,10 +244,12 @@ class Ledger:
             )
         )
 
-    def agreement(self, series: str, sender: tuple[str, str], first: int | None = None) -> str:
+    def agreement(
+        self, series: str, sender: tuple[str, str], first: int | None = None, addressee: tuple[str, str] = ("", "")
+    ) -> str:
         """The record by which a series is agreed, as far as messages tell the addressee and the first number."""
         number = self.value("SELECT min(number) FROM message WHERE text IS NOT NULL")
-        addressee = header_of(self.text(number)).addressee if number else ("", "")
+        addressee = header_of(self.text(number)).addressee if number else addressee
         first = first or self.value("SELECT min(number) FROM message") or 1
         return ",".join(["Agree", series, *sender, *addressee, str(first)])
 

@@ -8,6 +8,7 @@ from onixdesk_shop.faults import DONE
 from onixdesk_shop.inbox import series_json
 from onixdesk_shop.inbox.context import Inbox
 from onixdesk_shop.inbox.ledger import State
+from onixdesk_shop.inbox.posting import REASONS
 from onixdesk_shop.inbox.show import moment
 from onixdesk_shop.lines import count, cut, token
 from onixdesk_shop.places import FETCH_SETTINGS
@@ -60,9 +61,8 @@ def not_alike(inbox: Inbox, gaps: Gaps | None) -> Iterator[str]:
     """What the agreement, desk.json or the terms have otherwise than the settings. The terms may be no table."""
     settings, shop = inbox.settings, inbox.shop
     if gaps:
-        agreement = inbox.ledger.agreement(inbox.series, settings.sender, gaps.first)
-        is_known = inbox.ledger.value("SELECT count(*) FROM message WHERE text IS NOT NULL")
-        if is_known and inbox.desk.batch(f"{agreement}\n")[0][0] != "agreed":
+        if inbox.ledger.files("state = 'refused' AND why = ?", REASONS["unknown-series"]):
+            agreement = inbox.ledger.agreement(inbox.series, settings.sender, gaps.first)
             yield f"the desk has another agreement than {agreement}"
         if (gaps.first - 1) % settings.parts:
             yield f"no feed of {settings.parts} parts begins with the agreed first number, {gaps.first}"

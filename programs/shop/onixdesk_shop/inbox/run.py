@@ -5,7 +5,7 @@ from onixdesk_shop.faults import FAILED
 from onixdesk_shop.inbox import intake, keeping, posting, series_json, titles
 from onixdesk_shop.inbox.context import Inbox, NotAgreed
 from onixdesk_shop.inbox.full import tell_in_a_row
-from onixdesk_shop.inbox.judging import judge, retry_refused
+from onixdesk_shop.inbox.judging import agreement, judge, retry_refused
 from onixdesk_shop.inbox.ledger import File, State
 from onixdesk_shop.lines import ERROR, WARNING
 
@@ -23,8 +23,8 @@ def run(inbox: Inbox) -> int:
         gaps = work(inbox, gaps)
         inbox.is_well("no desk")
     except NotAgreed as fault:
-        agreement = inbox.ledger.agreement(inbox.series, inbox.settings.sender)
-        inbox.tell_once("not agreed", ERROR, f"{agreement}; {fault}, and its files wait")
+        if (files := inbox.ledger.files("1")) and not inbox.ledger.is_told("not agreed"):
+            inbox.tell_once("not agreed", ERROR, f"{agreement(inbox, files[0])}; {fault}, and its files wait")
     except NoDesk as fault:
         # That a desk does not run is its own unit's error; one that answers at one place alone is this program's.
         inbox.tell_once("no desk", ERROR if gaps else WARNING, f"files wait: {fault}")

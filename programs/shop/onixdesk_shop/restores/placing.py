@@ -4,10 +4,9 @@ It has `units`, what is to be started again; `new`, which is being made, and in 
 whole and on the disk. What a run that was killed has left there tells the next one how far it was.
 """
 
-import time
 from pathlib import Path
 
-from onixdesk_shop.copies.keeping import NAME
+from onixdesk_shop.copies.keeping import named
 from onixdesk_shop.desk_files import log_of
 from onixdesk_shop.lines import WARNING
 from onixdesk_shop.machine import Machine
@@ -55,10 +54,8 @@ class Work:
         for file in (self.new, log_of(self.new)):
             machine.own(file, self.database.parent)
         machine.sync_folder(self.new.parent)
-        second = time.strftime(NAME, time.gmtime(machine.now()))
-        while machine.exists(self.before(second)):
+        while machine.exists(self.before(second := named(machine.now()))):
             machine.sleep(0.2)
-            second = time.strftime(NAME, time.gmtime(machine.now()))
         machine.rename(self.new.parent, self.folder / f"{READY}{second}")
         machine.sync_folder(self.folder)
 

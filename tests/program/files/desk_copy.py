@@ -231,7 +231,7 @@ def written_meanwhile(room: Room) -> Iterator[Outcome]:
     yield Outcome("once", run(shop, shop.database, shop.copies / "one", machine=machine), 0)
     same = (shop.copies / "one/shop.db").read_bytes() == shop.database.read_bytes()
     yield Outcome("it has that", (same, machine.times), (True, 0))
-    os.utime(shop.database, (shop.inbox.clock + 9, shop.inbox.clock + 9))
+    os.utime(shop.database, (shop.inbox.clock + 900, shop.inbox.clock + 900))
     yield Outcome("a time to come", run(shop, shop.database, shop.copies / "two"), 3)
 
 

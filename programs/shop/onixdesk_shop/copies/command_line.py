@@ -38,10 +38,8 @@ def command_line() -> argparse.ArgumentParser:
 def copy_ledgers(machine: Machine, inboxes: Path, target: Path) -> None:
     """Copies each inbox's ledger, behind the desk: so they have the text of each message that the copy has."""
     machine.make_folder(target)
-    for entry in machine.entries(inboxes):
-        ledger = inboxes / entry.name / LEDGER
-        if machine.exists(ledger):
-            machine.backup(ledger, target / f"{entry.name}.db")
+    for ledger in machine.paths(inboxes, f"*/{LEDGER}"):
+        machine.backup(ledger, target / f"{ledger.parent.name}.db")
 
 
 def work(machine: Machine, options: argparse.Namespace) -> int:

@@ -33,7 +33,7 @@ def free_name(machine: Machine, folder: Path, second: int) -> Path:
 
 def copies_in(machine: Machine, folder: Path) -> list[Path]:
     """The copies of a folder, the oldest first."""
-    return [folder / entry.name for entry in machine.entries(folder) if is_name(entry.name)]
+    return [path for path in machine.paths(folder, "*") if is_name(path.name)]
 
 
 def corrections_in(machine: Machine, folder: Path) -> list[str]:

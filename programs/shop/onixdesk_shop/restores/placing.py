@@ -36,10 +36,7 @@ class Work:
 
     def ready(self) -> Path | None:
         """The folder of a new desk that is to get its place, or has got it."""
-        if not self.machine.exists(self.folder):
-            return None
-        names = [entry.name for entry in self.machine.entries(self.folder) if entry.name.startswith(READY)]
-        return self.folder / names[0] if names else None
+        return next(iter(self.machine.paths(self.folder, f"{READY}*")), None)
 
     def before(self, second: str) -> Path:
         """The name of what stood there before that second."""

@@ -1,9 +1,10 @@
 """One restore: what it is to put into place, what is said before, and the exchange."""
 
 import argparse
+import io
 
 from onixdesk_shop.batches import send
-from onixdesk_shop.copies.copying import copy_desk
+from onixdesk_shop.copies.copying import copied
 from onixdesk_shop.copies.keeping import CORRECTIONS, corrections_in, is_name, named
 from onixdesk_shop.desk_files import Contents, DeskFile, check, contents_of
 from onixdesk_shop.ends import program_of
@@ -48,7 +49,7 @@ class Restore:
         self.base = contents_of(machine, self.work.new)
         if options.text:
             self.work.begin()
-            send(self.desk, machine.lines_of(options.text))
+            send(self.desk, io.BytesIO(machine.read(options.text)))
 
     def send_since(self, present: Contents) -> None:
         """Tells the new desk the agreements and waivers that the present one has and the copy lacked."""
@@ -69,16 +70,12 @@ class Restore:
         machine, database = self.machine, self.options.db
         if not machine.exists(database):
             return Contents()
-        folder = self.work.folder / "present"
-        machine.make_folder(folder)
         try:
-            copy_desk(machine, database, folder)
-            return contents_of(machine, folder / database.name)
+            with copied(machine, database) as (copy, _):
+                return contents_of(machine, copy)
         except Fault as fault:
             machine.tell(WARNING, f"what the present desk was told since is not known: {fault}")
             return Contents()
-        finally:
-            machine.remove_tree(folder)
 
     # What is said before
 
@@ -117,10 +114,7 @@ class Restore:
         return found
 
     def ledgers_of_copy(self) -> list[str]:
-        folder = self.options.copy / LEDGERS
-        if not self.machine.exists(folder):
-            return []
-        return [entry.name[:-3] for entry in self.machine.entries(folder) if entry.name.endswith(".db")]
+        return [path.stem for path in self.machine.paths(self.options.copy / LEDGERS, "*.db")]
 
     def is_wanted(self, is_told: bool) -> bool:
         """Says what comes, and asks. Failed where something is lost and nobody said that it may."""

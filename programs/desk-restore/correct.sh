@@ -5,8 +5,7 @@
 # A file whose message is taken out is refused, or its inbox would post it again. Each EXPRESSION is one of sed. The
 # lines that change are shown, the first 20 of them, and desk-restore asks before anything is refused or stopped. Then
 # the correction is written down, with the next number of each series, and a new copy is taken.
-# Status 0; 1 where no line changes; else that of the command that failed. If no line says that the desk is in place, it
-# is as it was.
+# Status 1 where no line changes, else that of a command that failed: then the desk is in place if a line says so.
 set -eu
 # A terminal that hangs up ends nothing here.
 trap '' HUP
@@ -16,7 +15,6 @@ complain() { echo "correct.sh: $*; the desk is as it was" >&2; exit 1; }
 
 said=$* mark='' series=''
 if [ "${1-}" = --refuse ]; then
-    [ $# -gt 3 ] || complain "--refuse MARK SERIES and an EXPRESSION"
     mark=$2 series=$3
     shift 3
 fi

@@ -118,7 +118,10 @@ put() {
     rm -rf -- "$part"
     cp --preserve=timestamps -- "$whole/$1" "$part" && sync -- "$part" || return
     # Of a server without times the same bytes that come again say nothing.
-    [[ "${asked[*]-}" = *--ignore-times* ]] && cmp -s -- "$to" "$part" && { rm -- "$part" "$whole/$1"; return; }
+    if [[ "${asked[*]-}" = *--ignore-times* ]] && cmp -s -- "$to" "$part"; then
+        rm -- "$part" "$whole/$1"
+        return
+    fi
     if [ -e "$to" ] && ! cmp -s -- "$to" "$part"; then
         mv -T -- "$to" "$folder/$(sha256sum <"$to" | cut -c 1-12)-$(tail -c 200 <<<"$1")" || return
     fi

@@ -21,8 +21,7 @@ journal() {
         set -- --since=-1h "$@"
     fi
     journalctl --quiet --no-pager --output=short --unit=onixdesk.service --unit='onixdesk-inbox@*.service' \
-        --unit='onixdesk-fetch@*.service' \
-        --unit=onixdesk-copy.service --unit=onixdesk-follow.service \
+        --unit='onixdesk-fetch@*.service' --unit=onixdesk-copy.service --unit=onixdesk-follow.service \
         --unit=onixdesk-prices.service "$@" >"$folder/journal" || return
     [ -e "$folder/read" ] && [ "$(sed -n 1p "$folder/journal")" = "$(sed -n 2p "$folder/read")" ] &&
         sed -i 1d "$folder/journal"
@@ -44,14 +43,12 @@ some_of() {
     [ "$count" -le $most ] || echo "and $((count - most)) more"
 }
 
-mail() {
-    printf 'To: %s\nSubject: onixdesk: %s\n' "$address" "$1"
-    printf 'MIME-Version: 1.0\nContent-Type: text/plain; charset=UTF-8\nContent-Transfer-Encoding: 8bit\n\n'
-    cat "$folder/text"
-}
-
 send() {
-    mail "$1" >"$folder/mail"
+    {
+        printf 'To: %s\nSubject: onixdesk: %s\n' "$address" "$1"
+        printf 'MIME-Version: 1.0\nContent-Type: text/plain; charset=UTF-8\nContent-Transfer-Encoding: 8bit\n\n'
+        cat "$folder/text"
+    } >"$folder/mail"
     sendmail -i -t <"$folder/mail" || complain "sendmail ends with status $?"
 }
 

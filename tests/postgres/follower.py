@@ -27,13 +27,6 @@ def follow(room: Room, database: str, *words: Word) -> Ran:
     return room.call(words_of(room, database, *words))
 
 
-def brought(ran: Ran) -> str:
-    """How much a run says that it brought, without the moment; or what is wrong with it."""
-    if ran.status or ran.errors:
-        return f"{ran}"
-    return ran.output.decode().partition(" UTC: ")[2].rstrip("\n")
-
-
 def ask(database: str, query: str, *values: object) -> list[Row]:
     with closing(psycopg2.connect(database)) as connection, connection.cursor() as cursor:
         cursor.execute(query, values)

@@ -191,6 +191,7 @@ class Shop:
         folder = self.copies / name
         (folder / LEDGERS).mkdir(parents=True)
         self.write()
-        shutil.copy(self.database, folder / self.database.name)
+        for file in filter(Path.exists, (self.database, self.database.with_name("corrections"))):
+            shutil.copy(file, folder / file.name)
         self.inbox.work(lambda inbox: inbox.machine.backup(inbox.folder / LEDGER, folder / LEDGERS / f"{SERIES}.db"))
         return folder

@@ -1,7 +1,5 @@
 """The one client of the desk, at its socket for batches: reports on gaps, messages, questions."""
 
-import csv
-import io
 import json
 from collections.abc import Iterable, Iterator
 from dataclasses import dataclass
@@ -11,6 +9,7 @@ from typing import Any
 from onixdesk_shop.faults import Fault
 from onixdesk_shop.lines import cut
 from onixdesk_shop.machine import Machine
+from onixdesk_shop.messages import records_of
 
 # How long is waited between two tries at a desk that starts, in seconds.
 PAUSE = 1.0
@@ -87,7 +86,7 @@ class Desk:
                 raise NoDesk(f"no desk answers at {self.socket}: {error.strerror or error}") from None
         if not said.endswith(b"\n"):
             raise NoDesk(f"the desk at {self.socket} gives no whole answer")
-        return records_of(said)
+        return [*records_of(said)]
 
     def gaps(self, series: str) -> Gaps | None:
         """Its report on a series; nothing where it has not agreed on that."""
@@ -106,11 +105,6 @@ class Desk:
                 return Refused(reason, members, json.dumps({"answer": "refused", "reason": reason, **members}))
             case records:
                 raise Fault(f"the desk answers {cut(str(records))}")
-
-
-def records_of(answers: bytes) -> list[list[str]]:
-    """The records of a text of the desk's own."""
-    return [record for record in csv.reader(io.StringIO(answers.decode(), newline="")) if record]
 
 
 # An answer is a record and those of these kinds behind it.

@@ -3,10 +3,11 @@
 from dataclasses import dataclass, field
 from pathlib import Path
 
-from onixdesk_shop.desk import Gaps, records_of, reports_in
+from onixdesk_shop.desk import Gaps, reports_in
 from onixdesk_shop.faults import BadEnd, Failed, Fault
 from onixdesk_shop.lines import cut
 from onixdesk_shop.machine import Machine
+from onixdesk_shop.messages import records_of
 
 SERIES = "SELECT name, sender_type, sender_value, addressee_type, addressee_value, first_number FROM series"
 NUMBERS = "SELECT series, number, contents = 'waived' FROM {} ORDER BY series, number"
@@ -73,7 +74,7 @@ class DeskFile:
 
     def batch(self, text: str) -> list[list[str]]:
         """The records that it answers a batch with. It is made where it is not there."""
-        return records_of(self.machine.run([*self.words, "batch"], (0, 1), text.encode()).output)
+        return [*records_of(self.machine.run([*self.words, "batch"], (0, 1), text.encode()).output)]
 
     def gaps(self) -> dict[str, Gaps]:
         """Its reports on all series. Failed where the program does not take the files."""
@@ -81,4 +82,4 @@ class DeskFile:
             answers = self.machine.run([*self.words, "--existing", "gaps"], (0, 1)).output
         except BadEnd as error:
             raise Failed(f"the desk does not take the files: {error}") from None
-        return reports_in(records_of(answers))
+        return reports_in([*records_of(answers)])

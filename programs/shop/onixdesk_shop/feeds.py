@@ -101,7 +101,7 @@ def convert(
     said = said_in(ended.errors)
     if ended.status == BAD_CALL:
         raise BadCall(f"WORDS or TERMS: {cut(said.lines[0].removeprefix(PROGRAM_SAYS)) if said.lines else ''}")
-    messages = [machine.read(work / entry.name) for entry in machine.entries(work) if entry.name.endswith(".csv")]
+    messages = [machine.read(path) for path in machine.paths(work, "*.csv")]
     machine.remove_tree(work)
     if not messages:
         raise Refusal(refusal_of(said))

@@ -65,6 +65,10 @@ class Machine:
                 found.append(self.entry(folder / name))
         return found
 
+    def paths(self, folder: Path, pattern: str) -> list[Path]:
+        """What fits a pattern below a folder, in order; nothing where there is no such folder."""
+        return sorted(folder.glob(pattern))
+
     def entry(self, path: Path) -> Entry:
         found = os.lstat(path)
         is_regular = stat.S_ISREG(found.st_mode)
@@ -101,11 +105,6 @@ class Machine:
             return json.loads(self.read(path))
         except (FileNotFoundError, ValueError):
             return {}
-
-    def lines_of(self, path: Path) -> Iterator[bytes]:
-        """The lines of a file, each with its end."""
-        with open(path, "rb") as file:
-            yield from file
 
     def write_whole(self, path: Path, data: bytes, mode: int = 0o644) -> None:
         """Writes a file that others read meanwhile: they have the old one, or the new one, whatever happens."""
@@ -197,13 +196,8 @@ class Machine:
     def transaction(self, connection: sqlite3.Connection) -> Iterator[None]:
         """All that is done in it, or nothing."""
         connection.execute("BEGIN IMMEDIATE")
-        try:
+        with connection:
             yield
-            connection.execute("COMMIT")
-        except BaseException:
-            if connection.in_transaction:
-                connection.execute("ROLLBACK")
-            raise
 
     @contextlib.contextmanager
     def reading(self, database: Path) -> Iterator[sqlite3.Connection]:

@@ -61,8 +61,8 @@ class Product:
         return list(dict.fromkeys(value for value in found if len(value) == 13 and value.isascii() and value.isdigit()))
 
 
-def records_of(message: bytes) -> Iterator[list[str]]:
-    text = message.decode("utf-8-sig")
+def records_of(given: bytes) -> Iterator[list[str]]:
+    text = given.decode("utf-8-sig")
     return (record for record in csv.reader(io.StringIO(text, newline="")) if record)
 
 

@@ -13,7 +13,6 @@ DESK_FILE = LIB / "onixdesk" / "shop.db"
 INCOMING = LIB / "onixdesk-incoming"
 INBOXES = LIB / "onixdesk-inbox"
 STATE = LIB / "onixdesk-state"
-COPIES = LIB / "onixdesk-copies"
 
 BATCHES = Path("/run/onixdesk/batches")
 

@@ -1,4 +1,4 @@
-"""Batches that end within a request, inputs of which a read fails behind some byte, outputs that take part of
+"""Inputs of which a read fails behind some byte, outputs that take part of
 the answers, and disks that are full."""
 
 import os
@@ -17,27 +17,16 @@ from tests.program.serving import Exchange, connected, posted, serving
 from tests.running import Outcome
 from tools.words import Word
 
-# A batch in parts, and what a batch is answered that ends within this part or at its end. A record whose first
-# field begins no request belongs to the request before it.
-DELIVERED = AGREED + applied(1, 1)
-PARTS = [
-    (b"Agree,north,06,4012345000009,06,5012345678900,", b"refused,malformed,1\n"),
-    (b"1\n", AGREED),
-    (b"Messag", b"refused,malformed,2\n"),
-    (b"e,1,06,4012345000009,06,5012345678900,1,1,20250301,", AGREED + b"refused,malformed,1\n"),
-    (b",\nProduct,R1,03,15,", AGREED + b"refused,malformed,2\n"),
-    (b"9781234567897\nProductSupply,GB IE,", AGREED + b"refused,malformed,3\n"),
-    (b",\nSupplyDetail,04,06,4012345000009,North Books,21", AGREED + b"refused,malformed,4\n"),
-    (b",\nEndMessage,", AGREED + b"refused,malformed,5\n"),
-    (b"4\n", DELIVERED),
-    (b"AskGap", AGREED + b"refused,malformed,6\n"),
-    (b"s,", DELIVERED + b"refused,malformed,1\n"),
-    (b"nort", DELIVERED + b"refused,unknown-series\n"),
-    (b"h\n", DELIVERED + b"gaps,north,first=1,next=2,greatest=1,held=0,missing=0\n"),
-]
-
-BATCH = b"".join(part for part, _ in PARTS)
-ANSWERS = PARTS[-1][1]
+BATCH = b"""\
+Agree,north,06,4012345000009,06,5012345678900,1
+Message,1,06,4012345000009,06,5012345678900,1,1,20250301,,
+Product,R1,03,15,9781234567897
+ProductSupply,GB IE,,
+SupplyDetail,04,06,4012345000009,North Books,21,
+EndMessage,4
+AskGaps,north
+"""
+ANSWERS = AGREED + applied(1, 1) + b"gaps,north,first=1,next=2,greatest=1,held=0,missing=0\n"
 
 AGREEMENT = BATCH.splitlines(keepends=True)[0]
 OTHER_AGREEMENT = AGREEMENT.replace(b"north,06,4012345000009", b"south,06,5000000000005")
@@ -52,23 +41,6 @@ OVER_A_FILE = "--db", DATABASE, "batch"
 # No file may grow beyond so many blocks of 512 bytes, where it is said so.
 BLOCKS = 8192
 MOST_BYTES = BLOCKS * 512
-
-
-def bytes_of_parts() -> Iterator[tuple[int, bytes]]:
-    """How many bytes of the batch are given, and what is answered then."""
-    given = 0
-    for part, answers in PARTS:
-        for _ in part:
-            given += 1
-            yield given, answers
-
-
-def cut_batches(room: Room) -> Iterator[Outcome]:
-    """Cut off behind each byte."""
-    for given, answers in bytes_of_parts():
-        came = room.run("batch", given=BATCH[:given])
-        wanted = Ran(1 if b"refused" in answers else 0, answers)
-        yield Outcome(f"a batch cut off behind {given} bytes", came, wanted)
 
 
 def failing_behind(text: bytes) -> socket.socket:

@@ -18,9 +18,6 @@ BEFORE = (
     AGREED + applied(1, 1) + held(3, 2) + held(4, 2),
 )
 
-# Message 1 again.
-REPEAT = priced(1, "R1", "12.99")
-
 # What is asked, and what is answered where no value is bad, by the name of the case.
 QUESTIONS: dict[str, tuple[bytes, bytes]] = {}
 
@@ -34,19 +31,6 @@ for case in read_file(FOLDER / "damage.txt"):
     CASES += [(damage, repair, case.name) for damage, repair in zip(statements[::2], statements[1::2], strict=True)]
 
 FAULT = Ran(3, b"", b"onixdesk: storage: unusable\n")
-
-# Requests beside the delivery of a message whose text was damaged.
-REQUESTS = [
-    b"AskGaps,north\n",
-    b"AskCatalogue,north\n",
-    b"AskPrice,9781234567897,20250301,GB,GBP,02\n",
-    b"AskChoice,9781234567897,20250301,GB,GBP,02\n",
-    b"AskCalendar,9781234567897,20250301,20250302,GB,GBP,02\n",
-    AGREEMENT,
-    b"Waive,north,1\n",
-    b"Waive,north,5\n",
-    QUESTIONS["the message behind which held ones are applied"][0],
-]
 
 
 def dump(room: Room) -> list[str]:
@@ -67,29 +51,6 @@ def check(damage: str, repair: str, asked: bytes, answers: bytes, room: Room) ->
 
     execute(room, repair)
     yield Outcome(f"repaired: {damage}", batch(room, asked), Ran(0, answers))
-
-
-def returns(came: Ran) -> bool:
-    """Whether requests were answered, or one met the fault."""
-    return (came.status, came.errors) in [(0, b""), (1, b""), (FAULT.status, FAULT.errors)]
-
-
-def an_applied_text_that_is_none(room: Room) -> Iterator[Outcome]:
-    """A delivery of that number, whose contents are others, is refused or meets the fault, and so does
-    each other request return."""
-    first, first_answers = BEFORE
-    yield Outcome("before an applied text that is none", batch(room, first), Ran(0, first_answers))
-
-    execute(room, "UPDATE applied SET contents = 'x' WHERE number = 1")
-    other_contents = Ran(1, b"refused,other-contents,north,1\n")
-    for asked in REPEAT, bare(1):
-        came = batch(room, asked)
-        is_refused = came in [other_contents, FAULT]
-        yield Outcome(f"an applied text that is none: {asked!r}", is_refused or came, True)
-
-    for asked in REQUESTS:
-        came = batch(room, asked)
-        yield Outcome(f"beside a text that is none: {asked!r}", returns(came) or came, True)
 
 
 # Offers of the record R1 at the places from that one to another, as its first offer.

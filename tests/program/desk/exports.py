@@ -1,14 +1,11 @@
 """What the commands write that list what a desk in a file holds: `export`, `agreements`, and `gaps` of all series."""
 
-import shlex
 from collections.abc import Iterator
 
 from tests.program.databases import DATABASE, all_rows, batch
-from tests.program.documents.examples import block
 from tests.program.room import UNREADABLE, Ran, Room
 from tests.program.written_cases import TESTS
 from tests.running import Outcome
-from tools.root import ROOT
 
 FOLDER = TESTS / "exports"
 
@@ -90,13 +87,6 @@ def empty_desks(room: Room) -> Iterator[Outcome]:
         yield Outcome(f"no desk: {command}", room.told(command, given=UNREADABLE), wanted)
 
 
-def faults(room: Room) -> Iterator[Outcome]:
-    batch(room, REQUESTS)
-    for command in LISTS:
-        came = room.run("--db", DATABASE, command, given=UNREADABLE, is_full=True)
-        yield Outcome(f"a full output: {command}", came, Ran(3, b"", b"onixdesk: output\n"))
-
-
 def too_large(room: Room) -> Iterator[Outcome]:
     """A message that comes with quotation marks outside of quotes is longer with them: here each product has 100
     of them in its reference, so that the message comes with less than 4,194,304 bytes and is written with more."""
@@ -110,26 +100,3 @@ def too_large(room: Room) -> Iterator[Outcome]:
     came = listed(room, "export")
     line = b"onixdesk: export: north 1: too large\n"
     yield Outcome("a message that is too large: the export", came, Ran(3, agreement.encode(), line))
-
-
-def shell(room: Room, lines: list[str]) -> Ran:
-    """Runs lines of a page at the desk of the room, as a shell does to which they are pasted."""
-    text = "\n".join(lines).replace("/var/lib/onixdesk/shop.db", DATABASE).replace("/shop.db", f"/{DATABASE}")
-    program, copy = shlex.quote(str(room.program)), shlex.quote(str(ROOT / "bin/desk-copy"))
-    calls = f'onixdesk() {{ {program} "$@"; }}\ncopy() {{ {copy} "$@" >&2; }}\n'
-    return room.call(["sh", "-c", calls + text.replace("desk-copy ", "copy ")])
-
-
-def moved(room: Room) -> Iterator[Outcome]:
-    """What docs/MISTAKES.md says of a desk as text."""
-    batch(room, REQUESTS)
-    lines = block("docs/MISTAKES.md", "desk-copy /var/lib/onixdesk/shop.db friday")
-    came = shell(room, lines[1:3])
-    failed = came.status, came.output, room.path("new.db").exists()
-    yield Outcome("a desk is not moved where its export fails", failed, (3, b"", False))
-    came = shell(room, lines)
-    yield Outcome("a desk is moved", (came.status, came.output), (0, AGAIN))
-    yield Outcome("a desk that was moved", listed(room, "export", "new.db"), Ran(0, EXPORT))
-    came = shell(room, block("docs/MISTAKES.md", "sed -n"))
-    wanted = b"Message,2,06,4012345000009,06,5012345678900,4,1,,,\nEndMessage,1\n"
-    yield Outcome("what is recorded at a number", (came.status, came.output), (0, wanted))

@@ -62,9 +62,6 @@ def is_no_toml(room: Room) -> Iterator[Outcome]:
 
 
 def cannot_be_tried(room: Room) -> Iterator[Outcome]:
-    for file in "absent.toml", ".":
-        wanted = Ran(2, b"", f"onixdesk: file: {file}\n".encode())
-        yield Outcome(f"rules: {file}", room.run("rules", file), wanted)
     room.write("rules.toml", RULE)
     wanted = Ran(3, b"", b"onixdesk: output\n")
     yield Outcome("rules: a full output", room.run("rules", "rules.toml", is_full=True), wanted)

@@ -5,7 +5,7 @@ from collections.abc import Iterator
 from functools import partial
 
 from tests.program.desk.commands import FIRST
-from tests.program.databases import DATABASE, batch, complaints, execute, gaps, rows, table_names
+from tests.program.databases import DATABASE, batch, complaints, execute, rows, table_names
 from tests.program.desk.existing import EXISTING, UNUSABLE
 from tests.program.messages import AGREED, AGREEMENT, applied, bare, held, priced
 from tests.program.room import UNREADABLE, Group, Ran, Room
@@ -71,56 +71,17 @@ def is_not_made(command: str, room: Room) -> Iterator[Outcome]:
     )
 
 
-# Two days of a desk. The first has a message before its turn, one again, and one with other contents.
-FIRST_DAY = b"".join(
-    [AGREEMENT, priced(3, "R3", "5"), priced(1, "R1", "12.99"), priced(1, "R1", "12.99"), priced(1, "R2", "1")]
-)
-FIRST_ANSWERS = AGREED + held(3, 1) + 2 * applied(1, 1) + b"refused,other-contents,north,1\n"
-SECOND_DAY = b"".join(
-    [priced(2, "R2", "7"), priced(3, "R3", "5"), bare(5), b"Waive,north,4\nWaive,north,2\n", b"AskCatalogue,north\n"]
-)
-SECOND_ANSWERS = b"".join(
-    [
-        applied(2, 1),
-        applied(3, 1),
-        held(5, 4),
-        b"waived,north,4\nrefused,had,north,2\ncatalogue,north,3\n",
-        *(
-            f"record,{reference},15,9781234567897\nProductSupply,GB IE,,\n"
-            f"SupplyDetail,04,06,4012345000009,North Books,21,\nPrice,02,{amount},GBP,,WORLD,,,\n".encode()
-            for reference, amount in [("R1", "12.990"), ("R2", "7.000"), ("R3", "5.000")]
-        ),
-    ]
-)
-REPORT = b"gaps,north,first=1,next=6,greatest=5,held=0,missing=0\n"
-
-
-def in_order(room: Room) -> Iterator[Outcome]:
-    """Each day, and each question, is a run of the program."""
+def beside_a_desk(room: Room) -> Iterator[Outcome]:
+    """A desk that is made there answers as any other, in later runs too, and their rows stay."""
     execute(room, STRANGERS)
-    for day, asked, status, answers in [
-        ("first", FIRST_DAY, 1, FIRST_ANSWERS),
-        ("second", SECOND_DAY, 1, SECOND_ANSWERS),
-        # Given again, each message has the answer of its first delivery, and nothing changes.
-        (
-            "second, again",
-            SECOND_DAY.replace(b"AskCatalogue,north\n", b""),
-            1,
-            b"".join([applied(2, 1), applied(3, 1), applied(5), b"waived,north,4\nrefused,had,north,2\n"]),
-        ),
-    ]:
-        yield Outcome(f"a desk beside strangers' tables: the {day} day", batch(room, asked), Ran(status, answers))
-        yield Outcome(
-            f"a desk beside strangers' tables: their rows after the {day} day",
-            (strangers_rows(room), complaints(room)),
-            (STRANGERS_ROWS, []),
-        )
-    yield Outcome("a desk beside strangers' tables: its gaps", gaps(room), Ran(0, REPORT))
-    for command, wanted in [("agreements", AGREEMENT), ("gaps", REPORT)]:
-        came = room.run("--db", DATABASE, command, given=UNREADABLE)
-        yield Outcome(f"a desk beside strangers' tables: {command}", came, Ran(0, wanted))
-    came = room.run(*EXISTING, "gaps", "north", given=UNREADABLE)
-    yield Outcome("a desk beside strangers' tables: by --existing", came, Ran(0, REPORT))
+    answers = AGREED + applied(1, 1) + held(3, 2)
+    came = batch(room, AGREEMENT + priced(1, "R1", "12.99") + bare(3))
+    yield Outcome("a desk beside strangers' tables: the first day", came, Ran(0, answers))
+    came = batch(room, bare(2) + bare(3)), room.run(*EXISTING, "gaps", "north", given=UNREADABLE)
+    report = b"gaps,north,first=1,next=4,greatest=3,held=0,missing=0\n"
+    yield Outcome("a desk beside strangers' tables: the next", came, (Ran(0, applied(2) + applied(3)), Ran(0, report)))
+    kept = strangers_rows(room), complaints(room)
+    yield Outcome("a desk beside strangers' tables: their rows", kept, (STRANGERS_ROWS, []))
 
 
 GROUPS = [

@@ -45,13 +45,19 @@ def undone(
     yield Outcome(f"{text}: prices behind", desk.prices(), {name: [amount] for name, amount in behind.items()})
 
 
+def copies_in(desk: Machine) -> list[str]:
+    folder = "/var/lib/onixdesk-copies"
+    return sorted(f"{folder}/{path.name}" for path in desk.room.path(folder[1:]).iterdir())
+
+
 def undone_again(
     desk: Machine, text: str, before: dict[str, str], behind: dict[str, str], lacking: bytes
 ) -> Iterator[Outcome]:
     """So it is behind a restore of a copy from before it, which may say what the desk lacks until then."""
     desk.run(["systemctl start onixdesk-copy.service"])
+    (copy,) = copies_in(desk)
     yield from undone(desk, text, before, behind)
-    ran = desk.run(["desk-restore --before-correction --yes /var/lib/onixdesk-copies/*.before-correction"])
+    ran = desk.run([f"desk-restore --before-correction --yes {copy}"])
     found = ran.status, lacking in ran.errors
     yield Outcome(f"{text}: a copy from before it is restored", found, (1 if lacking else 0, True))
     yield from undone(desk, text, before, behind)
@@ -157,10 +163,14 @@ def a_wrong_message(room: Room) -> Iterator[Outcome]:
     with machine(room, AGREED) as desk:
         before, wrong = with_a_wrong_message(desk)
         marks = {"3f9a0c51d2b7": mark(wrong)}
+        block = block_with("/aWaive,north,2")
+        ran = desk.run(["\n".join(block).replace("3f9a0c51d2b7", mark(wrong))], said="no\n")
+        found = ran.status, desk.take({})["wrong.xml"]
+        yield Outcome("a wrong message: nobody said yes, and nothing is refused", found, (1, "applied"))
         yield from undone(desk, "/aWaive,north,2", before, {"a": "10.000", "c": "7.000"}, marks)
-        copies = (path.name for path in room.path("var/lib/onixdesk-copies").iterdir() if path.is_dir())
-        aside = sorted(name.endswith(".before-correction") for name in copies)
-        yield Outcome("a wrong message: a new copy, and the one from before", aside, [False, True])
+        asked = [desk.run([f"desk-restore --yes {copy}"]) for copy in copies_in(desk)]
+        found = [(ran.status, b"north next=4, --refuse " in ran.errors) for ran in asked]
+        yield Outcome("a wrong message: copies from before, and a new one", found, [(1, True), (1, True), (0, False)])
         yield from what_comes_then(desk)
 
 

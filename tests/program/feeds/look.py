@@ -192,15 +192,13 @@ def terms(room: Room) -> Iterator[Outcome]:
     yield Outcome(
         "that of a scheme goes first", 0 < table.find('scheme = "Harper"') < table.find('codes = ["02,B"]'), True
     )
-    for scheme, net, unfitted in ("Harper", 1, ["02,B"]), ("Pan", 0, ["02,A", "02,B"]):
+    for scheme, net in ("Harper", 1), ("Pan", 0):
         lines = "[[term]]", 'types = ["02"]', 'codes = ["02,A"]', f'scheme = "{scheme}"', 'net = "05"', 'percent = "40"'
         room.write("a.toml", "\n".join(lines).encode())
         found = sections(look(room, "--terms", "a.toml", "north-7.xml", price_type="05"))
         yield Outcome(
             f"with terms of {scheme}", found["Prices by type and currency"], ["4  02 GBP", *["1  05 GBP"] * net]
         )
-        remark = next(line for line in found["To look at"] if line.startswith("no term names these codes: "))
-        yield Outcome("codes without one", sorted(re.findall("02,[AB]", remark)), unfitted)
     room.write("shop.toml", b"shop = 1")
     came = look(room, "--terms", "shop.toml", "north-7.xml")
     yield Outcome("no terms", (came.status, b"terms: not TOML" in came.errors), (2, True))

@@ -22,21 +22,25 @@ EndMessage,1
 # The corrected text is kept by the restore, whose status is that of a file.
 PROGRAMS = {
     "desk-copy": "mkdir before",
-    "onixdesk": 'cat "$ROOM/text"',
-    "onixdesk-inbox": "",
-    "desk-restore": 'cp "$2" "$ROOM/corrected"; [ ! -e "$ROOM/hangs-up" ] || kill -HUP $PPID; exit "$(cat "$ROOM/status")"',
+    "onixdesk": 'if [ "$4" = gaps ]; then echo "gaps,north,first=1,next=3,greatest=2"; else cat "$ROOM/text"; fi',
+    "desk-restore": 'cp after.csv "$ROOM/corrected"; [ ! -e "$ROOM/hangs-up" ] || kill -HUP $PPID; exit "$(cat "$ROOM/status")"',
     "systemctl": "",
 }
 
 REFUSE = ["--refuse", "3f9a0c51d2b7", "north"]
 TAKE_OUT = ["/^Message,2,06,N,06,S,2,/,/^EndMessage,/d", "/^Agree,north,/aWaive,north,2"]
 
+SAID = " ".join(TAKE_OUT)
 CALLS = [
-    "onixdesk-inbox --refuse 3f9a0c51d2b7 north",
     "desk-copy /var/lib/onixdesk/shop.db before",
     "onixdesk --db before/shop.db --existing export",
-    "desk-restore --text after.csv before",
+    "onixdesk --db before/shop.db --existing gaps",
+    f"desk-restore --said north next=3, {SAID} --text after.csv before",
     "systemctl start onixdesk-copy.service",
+]
+REFUSING = [
+    call.replace("--said north next=3, ", f"{' '.join(REFUSE)} --said north next=3, {' '.join(REFUSE)} ")
+    for call in CALLS
 ]
 
 
@@ -64,17 +68,17 @@ def default_signals() -> None:
 
 
 def a_message_is_taken_out(room: Room) -> Iterator[Outcome]:
-    yield Outcome("refused first, a new copy at the end", corrected(room, *REFUSE, *TAKE_OUT), (0, CALLS))
+    yield Outcome("refused by the restore, a new copy at the end", corrected(room, *REFUSE, *TAKE_OUT), (0, REFUSING))
     lines = TEXT.splitlines(keepends=True)
     wanted = "".join([lines[0], "Waive,north,2\n", *lines[1:3]])
     yield Outcome("the text", room.path("corrected").read_text(), wanted)
-    yield Outcome("no file", corrected(room, *TAKE_OUT), (0, CALLS[1:]))
+    yield Outcome("no file", corrected(room, *TAKE_OUT), (0, CALLS))
 
 
 def what_ends_it(room: Room) -> Iterator[Outcome]:
-    yield Outcome("no line changes", corrected(room, "s/^Agree,south/x/"), (1, CALLS[1:3]))
-    yield Outcome("a wrong expression", corrected(room, "s/x")[1], CALLS[1:3])
+    yield Outcome("no line changes", corrected(room, "s/^Agree,south/x/"), (1, CALLS[:3]))
+    yield Outcome("a wrong expression", corrected(room, "s/x")[1], CALLS[:3])
     yield Outcome("no expression", corrected(room), (1, []))
-    yield Outcome("a restore that lacks something", corrected(room, *TAKE_OUT, status=1), (1, CALLS[1:]))
+    yield Outcome("a restore that lacks something", corrected(room, *TAKE_OUT, status=1), (1, CALLS))
     room.write("hangs-up", b"")
-    yield Outcome("a terminal that hangs up", corrected(room, *TAKE_OUT), (0, CALLS[1:]))
+    yield Outcome("a terminal that hangs up", corrected(room, *TAKE_OUT), (0, CALLS))

@@ -135,7 +135,7 @@ def under_messages(room: Room) -> Iterator[Outcome]:
 
 # Over files of the tests, in this process
 
-OLD = "2025-01-01T00-00-00Z", "2025-01-02T00-00-00Z", "2025-01-03T00-00-00Z.before-correction"
+OLD = "2025-01-01T00-00-00Z", "2025-01-02T00-00-00Z", "2025-01-03T00-00-00Z"
 
 
 def shop_in(room: Room, name: str) -> Shop:
@@ -170,10 +170,12 @@ def of_a_desk_at_rest(room: Room) -> Iterator[Outcome]:
     shop = shop_in(room, "rest")
     log = shop.database.with_name("shop.db-wal")
     log.write_bytes(b"")
-    wanted = {path.name: path.read_bytes() for path in (shop.database, log)}
+    corrections = shop.database.with_name("corrections")
+    corrections.write_text("a list\n")
+    wanted = {path.name: path.read_bytes() for path in (shop.database, log, corrections)}
     target = shop.copies / "friday"
     yield Outcome("status", run(shop, shop.database, target), 0)
-    yield Outcome("both files, byte by byte", files(target), wanted)
+    yield Outcome("the files, byte by byte", files(target), wanted)
     yield Outcome("for its owner alone", target.stat().st_mode & 0o777, 0o700)
     yield Outcome("a folder that exists", run(shop, shop.database, target), 3)
     yield Outcome("a desk that is missing", run(shop, shop.database.with_name("none.db"), shop.copies / "none"), 3)
@@ -199,7 +201,7 @@ def each_night(room: Room) -> Iterator[Outcome]:
     yield Outcome("a clock that was ahead", run(shop, "--keep", 1, *words[2:]), 0)
     names = sorted(path.name for path in shop.copies.iterdir())
     yield Outcome("leaves the new one", (len(names), names[0] > OLD[2], names[1]), (2, True, "of the shop"))
-    corrected = [f"2025-01-04T1{hour}-00-00Z.before-correction" for hour in range(4)]
+    corrected = [f"2025-01-04T1{hour}-00-00Z" for hour in range(4)]
     for name in (*OLD, *corrected):
         (shop.copies / name).mkdir()
     run(shop, "--keep", 4, *words[2:])
@@ -229,7 +231,7 @@ def written_meanwhile(room: Room) -> Iterator[Outcome]:
     yield Outcome("once", run(shop, shop.database, shop.copies / "one", machine=machine), 0)
     same = (shop.copies / "one/shop.db").read_bytes() == shop.database.read_bytes()
     yield Outcome("it has that", (same, machine.times), (True, 0))
-    os.utime(shop.database, (shop.inbox.clock + 9, shop.inbox.clock + 9))
+    os.utime(shop.database, (shop.inbox.clock + 900, shop.inbox.clock + 900))
     yield Outcome("a time to come", run(shop, shop.database, shop.copies / "two"), 3)
 
 

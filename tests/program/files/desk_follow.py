@@ -6,13 +6,11 @@ import sqlite3
 from collections.abc import Iterator
 from contextlib import closing
 
-from onixdesk_shop.faults import BadCall, Fault
 from onixdesk_shop.machine import Machine
-from onixdesk_shop.postgres.following import TABLES, check_version, lines_of, rule_line
+from onixdesk_shop.postgres.following import TABLES, lines_of, rule_line
 from onixdesk_shop.rules import rules_by
 from tests.program.databases import DATABASE, batch
 from tests.program.room import Ran, Room
-from tests.program.desk.rules_files import files, said_by_desk
 from tests.running import Outcome
 from tools.root import ROOT
 from tools.words import Word
@@ -49,20 +47,10 @@ def message(number: int, references: list[str], sender: str = "S") -> str:
 
 
 def precedence_tables(room: Room) -> Iterator[Outcome]:
-    """The desk says which tables are none, and of those that it takes the rules are read."""
-    machine = Machine("test")
-    for name, text, fault in files("desk"):
-        room.write("rules.toml", text)
-        try:
-            rules_by(machine, room.program, room.path("rules.toml"))
-            said = b""
-        except BadCall as bad:
-            said = f"onixdesk: {bad}\n".encode()
-        yield Outcome(f"desk-follow: rules: {name}", said, said_by_desk(fault))
     text = b'\xef\xbb\xbf[[rule]]\nseries = "*"\ncodes = ["20", "21"]\nmax = "12.9"\n[[rule]]\nseries = "north"\ncodes = ["10"]\n'
     room.write("rules.toml", text)
     wanted = [b"1\t*\t{20,21}\t12900\n", b"2\tnorth\t{10}\t\\N\n"]
-    rules = rules_by(machine, room.program, room.path("rules.toml"))
+    rules = rules_by(Machine("test"), room.program, room.path("rules.toml"))
     found = [rule_line(number, rule) for number, rule in enumerate(rules, 1)]
     yield Outcome("desk-follow: rules that are read", found, wanted)
 
@@ -112,14 +100,3 @@ def refused(room: Room) -> Iterator[Outcome]:
     room.write("rules.toml", b"rule = 1\n")
     ran = follow(room, "--program", room.program, "--rules", "rules.toml", DATABASE)
     yield Outcome("desk-follow: a bad table", ran, Ran(2, b"", b"desk-follow: rules: not TOML\n"))
-    for version, told in [("amount = 1", "1"), ("item = 'other'", "None")]:
-        with closing(sqlite3.connect(room.path(DATABASE))) as connection, connection:
-            connection.execute(f"UPDATE meta SET {version}")
-        why = ""
-        try:
-            with Machine("test").reading(room.path(DATABASE)) as source:
-                check_version(source)
-        except Fault as fault:
-            why = str(fault)
-        wanted = f"its tables are of version {told} of a desk's, in place of 2"
-        yield Outcome("desk-follow: another version", why, wanted)

@@ -2,6 +2,7 @@
 
 import argparse
 import os
+import shutil
 from collections.abc import Iterator
 from dataclasses import replace
 from functools import partial
@@ -20,7 +21,8 @@ from tests.shop.fake_machine import Killed
 from tests.shop.fake_program import SENDER, feed_of, isbn_of
 from tests.shop.inboxes import SERIES
 
-OPTIONS: dict[str, Any] = {"yes": False, "gaps": False, "before_correction": False, "text": None}
+OPTIONS: dict[str, Any] = dict.fromkeys(("yes", "gaps", "before_correction"), False)
+OPTIONS |= {"text": None, "refuse": None, "said": "it was wrong"}
 
 # Of the calls of a restore each so many'th is tried; ONIXDESK_STRIDE=1 tries all.
 STRIDE = int(os.environ.get("ONIXDESK_STRIDE", "9"))
@@ -96,8 +98,11 @@ def refused_before(room: Room) -> Iterator[Outcome]:
     yield Outcome("the others", (run(shop, copy), price(shop), shop.inbox.states()["4.xml"]), (0, "13.000", "rejected"))
     shop.inbox.run()
     yield Outcome("its number is waived", shop.inbox.series.had[4], WAIVED)
-    aside = wrong.with_name(f"{wrong.name}.before-correction")
-    yield Outcome("a copy that has it is set aside", (copy.exists(), aside.exists()), (True, True))
+    lying = shop.copies / "elsewhere"
+    shutil.copytree(wrong, lying)
+    for one in wrong, lying:
+        yield Outcome(f"a copy that has it, {one.name}", (run(shop, one), has(shop)), (1, [1, 2, 3, 4]))
+    yield Outcome("one from before", (run(shop, copy), price(shop)), (0, "13.000"))
 
 
 def output_that_breaks(room: Room) -> Iterator[Outcome]:
@@ -197,13 +202,9 @@ def copies_that_are_refused(room: Room) -> Iterator[Outcome]:
     damaged.joinpath("shop.db").write_bytes(b"no database" * 1000)
     for name in ("shop.db", "other.db"):
         more.joinpath(name).write_bytes(good.joinpath("shop.db").read_bytes())
-    aside = good.rename(good.with_name(f"{good.name}.before-correction"))
-    for copy, status in ((damaged, 1), (more, 3), (none, 3), (aside, 1)):
+    for copy, status in ((damaged, 1), (more, 3), (none, 3)):
         yield Outcome(copy.name, (run(shop, copy), shop.units), (status, []))
     yield Outcome("the desk", shop.database.read_bytes() == before, True)
-    yield Outcome("with its word", run(shop, aside, before_correction=True), 0)
-    again = "the correction of the desk's text has to be made again"
-    yield Outcome("says so", again in shop.lines, True)
 
 
 def ledgers(room: Room) -> Iterator[Outcome]:
@@ -220,9 +221,9 @@ def ledgers(room: Room) -> Iterator[Outcome]:
 
 
 def corrections(room: Room) -> Iterator[Outcome]:
-    """A desk of a corrected text: what came meanwhile is there too, and the copies from before are set aside."""
+    """A desk of a corrected text: what came meanwhile is there too, and a copy from before is known, by any name."""
     shop = shop_in(room, "corrections")
-    four_days(shop)
+    night = four_days(shop)
     assert shop.inbox.desk
     copy = shop.take_copy("before")
     text = room.path("after.csv")
@@ -233,8 +234,8 @@ def corrections(room: Room) -> Iterator[Outcome]:
     yield Outcome("the status", run(shop, copy, text=text), 0)
     yield Outcome("the prices", (price(shop), price(shop, "R2")), ("99.000", "15.000"))
     yield Outcome("what was waived meanwhile", (has(shop), shop.inbox.series.had[6]), ([1, 2, 3, 4, 5, 6], WAIVED))
-    aside = ["2026-11-27T02-30-12Z.before-correction", "before"]
-    yield Outcome("the copies from before", sorted(path.name for path in shop.copies.iterdir()), aside)
+    yield Outcome("a copy from before", run(shop, night.rename(shop.copies / "night")), 1)
+    yield Outcome("says what was made", shop.lines[-1].endswith(": it was wrong"), True)
     text.write_text(text.read_text().partition("\n")[2])
     before = shop.database.read_bytes()
     yield Outcome("a text that the desk refuses", (run(shop, copy, text=text) > 0, shop.started), (True, {*UNITS}))
@@ -301,9 +302,11 @@ def another_identifier(room: Room) -> Iterator[Outcome]:
     yield Outcome("corrected", (renamed(shop, "first"), has(shop)), (0, [1, 2, 3, 4]))
     shop.send(("5.xml", feed_of(5, {"R1": "15.00"}, sender=OTHER)))
     yield Outcome("the next feed", (has(shop), price(shop)), ([1, 2, 3, 4, 5], "15.000"))
-    before = copy.with_name(f"{copy.name}.before-correction")
-    yield Outcome("a copy from before", (run(shop, before, before_correction=True), has(shop)), (1, [1, 2, 3, 4]))
+    yield Outcome("a copy from before", (run(shop, copy, before_correction=True), has(shop)), (1, [1, 2, 3, 4]))
     yield Outcome("says what is lacking", "north: the desk still lacks number 5" in shop.lines, True)
+    yield Outcome(
+        "and to make again", [line for line in shop.lines if line.startswith("has to be made again: ")] != [], True
+    )
     yield Outcome("corrected again", renamed(shop, "again"), 0)
     shop.inbox.run()
     yield Outcome("it has all", (has(shop), price(shop), shop.inbox.run()), ([1, 2, 3, 4, 5], "15.000", []))

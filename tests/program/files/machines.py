@@ -42,7 +42,7 @@ PROGRAMS = {
     "desk-copy": f'exec "{ROOT}/bin/desk-copy" "$@"',
     "desk-prices": f'exec "{ROOT}/bin/desk-prices" --settings ROOM/etc/onixdesk/page/desk.json'
     ' --state ROOM/var/lib/onixdesk-state "$@"',
-    "desk-restore": f'exec "{ROOT}/bin/desk-restore" {OF_DESK} --copies ROOM/var/lib/onixdesk-copies "$@"',
+    "desk-restore": f'exec "{ROOT}/bin/desk-restore" {OF_DESK} "$@"',
     "desk-renew": f'exec "{ROOT}/bin/desk-renew" {OF_DESK} "$@"',
     "onixdesk-inbox": f"""case $1 in waive|show|report) name=$1; shift;; esac
 set -- --rules ROOM/etc/onixdesk/rules.toml --page ROOM/etc/onixdesk/page/desk.json "$@"

@@ -7,12 +7,10 @@ from pathlib import Path
 from tests.program.databases import DATABASE, batch, execute
 from tests.program.documents.examples import block
 from tests.program.inbox.inboxes import AGREEMENT, CONNECTIONS, WORDS
-from tests.program.room import Ran, Room
+from tests.program.room import Room
 from tests.program.serving import serving
 from tests.running import Outcome
 from tools.root import ROOT
-
-UNUSABLE = Ran(3, b"", b"onixdesk: storage: unusable\n")
 
 
 def told(room: Room, file: str) -> str:
@@ -24,30 +22,22 @@ def told(room: Room, file: str) -> str:
     return ran.output.decode(errors="replace")
 
 
-def asked(room: Room, file: str) -> Ran:
-    return room.run("--db", file, "--existing", "gaps", "north")
-
-
 def causes(room: Room) -> Iterator[Outcome]:
     batch(room, AGREEMENT)
     room.write("text.db", b"no database" * 1000)
     execute(room, "CREATE TABLE meta (other TEXT)", "other.db")
-    yield Outcome("unusable: a missing file", asked(room, "missing.db"), UNUSABLE)
     yield Outcome(
         "unusable: a missing file is told", "missing.db - No such file or directory" in told(room, "missing.db"), True
     )
     text = told(room, "text.db")
-    yield Outcome("unusable: no database", asked(room, "text.db"), UNUSABLE)
     yield Outcome("unusable: no database is told", ("SQLite format 3" in text, "no database" in text), (False, True))
     text = told(room, "other.db")
-    yield Outcome("unusable: no desk's", asked(room, "other.db"), UNUSABLE)
     yield Outcome(
         "unusable: no desk's is told", ("SQLite format 3" in text, "a copy of it is not sound" in text), (True, True)
     )
     before = told(room, DATABASE)
     yield Outcome("unusable: a desk's", ("SQLite format 3" in before, "not sound" in before), (True, False))
     with serving(room, WORDS, CONNECTIONS) as desk:
-        yield Outcome("unusable: an open desk's", asked(room, DATABASE), UNUSABLE)
         is_told = f"/proc/{desk.process.pid}/fd/" in told(room, DATABASE)
         yield Outcome("unusable: an open desk's is told", is_told, True)
 
@@ -60,18 +50,9 @@ def who_owns_it(room: Room) -> Iterator[Outcome]:
     yield Outcome("unusable: whose it is", [each.split()[1] for each in line], [owner])
 
 
-def files_beside_a_desk(room: Room) -> Iterator[Outcome]:
-    """What the page says of a file that was cut, and of somebody's file with the name of a log."""
-    batch(room, AGREEMENT)
-    whole = room.path(DATABASE).read_bytes()
-    room.write("cut.db", whole[: len(whole) // 2])
-    came = asked(room, "cut.db")
-    yield Outcome("a file that was cut", came, Ran(3, b"", b"onixdesk: storage: disk\n"))
-    yield Outcome("a file that was cut stays so", room.path("cut.db").read_bytes(), whole[: len(whole) // 2])
+def a_log_of_somebody(room: Room) -> Iterator[Outcome]:
+    """A new desk overwrites it, as the page says."""
     room.write("new.db-wal", b"notes of somebody\n" * 20)
     came = room.run("--db", "new.db", "batch", given=AGREEMENT)
     is_kept = room.path("new.db-wal").read_bytes().startswith(b"notes")
     yield Outcome("somebody's file with the name of a log", (came.status, is_kept), (0, False))
-    page = ROOT.joinpath("docs/RELIABILITY.md").read_text(encoding="utf-8").partition("### Files beside a desk")[2]
-    named = [name for name in ("that was cut", "`shop.db-wal` that is not", "`.onixdesk.PID`") if name not in page]
-    yield Outcome("both are in the page", named, [])

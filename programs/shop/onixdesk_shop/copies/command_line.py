@@ -5,7 +5,7 @@ import time
 from pathlib import Path
 
 from onixdesk_shop.copies.copying import Copied, copy_desk
-from onixdesk_shop.copies.keeping import UNFINISHED, free_name, keep_latest
+from onixdesk_shop.copies.keeping import CORRECTIONS, UNFINISHED, free_name, keep_latest
 from onixdesk_shop.desk_files import check
 from onixdesk_shop.ends import parser_of
 from onixdesk_shop.faults import DONE, Fault
@@ -38,10 +38,8 @@ def command_line() -> argparse.ArgumentParser:
 def copy_ledgers(machine: Machine, inboxes: Path, target: Path) -> None:
     """Copies each inbox's ledger, behind the desk: so they have the text of each message that the copy has."""
     machine.make_folder(target)
-    for entry in machine.entries(inboxes):
-        ledger = inboxes / entry.name / LEDGER
-        if machine.exists(ledger):
-            machine.backup(ledger, target / f"{entry.name}.db")
+    for ledger in machine.paths(inboxes, f"*/{LEDGER}"):
+        machine.backup(ledger, target / f"{ledger.parent.name}.db")
 
 
 def work(machine: Machine, options: argparse.Namespace) -> int:
@@ -69,10 +67,12 @@ def copy_by(machine: Machine, new: Path, folder: Path, options: argparse.Namespa
     machine.make_folder(new)
     found = copy_desk(machine, options.file, new)
     check(machine, new / options.file.name, options.file)
+    if machine.exists(corrections := options.file.with_name(CORRECTIONS)):
+        machine.copy(corrections, new / CORRECTIONS)
     if options.inboxes:
         copy_ledgers(machine, options.inboxes, new / LEDGERS)
     machine.sync_tree(new)
-    place = free_name(machine, folder, found.moment) if options.keep else folder
+    place = free_name(machine, folder, found.moment // 1_000_000_000) if options.keep else folder
     if machine.exists(place):
         raise Fault(f"{place}: it already exists")
     machine.rename(new, place)

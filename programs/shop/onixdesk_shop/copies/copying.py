@@ -42,18 +42,17 @@ class Rest:
 
     def spend(self, file: Path, seconds: float) -> None:
         if self.machine.now() + seconds > self.end:
-            raise Fault(f"{file}: it was never left as it is for long enough, in {self.seconds:g} s")
+            raise Fault(
+                f"{file}: it is not left as it is for long enough, in {self.seconds:g} s, or the clock was set back"
+            )
         self.machine.sleep(seconds)
 
     def standing(self, file: Path) -> Entry | None:
         """How the file stands now; nothing where there is none."""
         try:
-            found = self.machine.entry(file)
+            return self.machine.entry(file)
         except FileNotFoundError:
             return None
-        if not found.is_regular:
-            raise Fault(f"{file}: it is no regular file")
-        return found
 
     def at_rest(self, file: Path) -> Entry | None:
         """How the file stands, once no write that is still to come can leave it standing so."""
@@ -63,8 +62,6 @@ class Rest:
             latest = max(found.modified, found.changed) if found else 0
             if latest <= began - REST:
                 return found
-            if latest > int(self.machine.now() * 1e9) + REST:
-                raise Fault(f"{file}: it was changed at a time that is still to come; was the clock set back?")
             self.spend(file, (latest + REST - began) / 1e9)
 
 

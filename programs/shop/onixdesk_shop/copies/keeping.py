@@ -13,30 +13,38 @@ NAME = "%Y-%m-%dT%H-%M-%SZ"
 # So many letters of it are the day.
 DAY = 10
 
-# Behind the name of one from before a correction of the desk's text.
-CORRECTED = ".before-correction"
+# Beside a desk, and in each of its copies: a line for each correction, behind the name of the last copy that is right
+# without it, if there is one.
+CORRECTIONS = "corrections"
 
-is_name = re.compile(rf"\d{{4}}-\d\d-\d\dT\d\d-\d\d-\d\dZ(?:{re.escape(CORRECTED)})?").fullmatch
+is_name = re.compile(r"\d{4}-\d\d-\d\dT\d\d-\d\d-\d\dZ").fullmatch
 
 
-def free_name(machine: Machine, folder: Path, moment: int) -> Path:
-    """The place of a copy of that moment, in nanoseconds since 1970, or of the first later second that no copy has."""
-    while machine.exists(place := folder / time.strftime(NAME, time.gmtime(moment // 1_000_000_000))):
-        moment += 1_000_000_000
+def named(second: float) -> str:
+    return time.strftime(NAME, time.gmtime(second))
+
+
+def free_name(machine: Machine, folder: Path, second: int) -> Path:
+    """The place of a copy of that second, or of the first later one that no copy has."""
+    while machine.exists(place := folder / named(second)):
+        second += 1
     return place
 
 
 def copies_in(machine: Machine, folder: Path) -> list[Path]:
     """The copies of a folder, the oldest first."""
-    return [folder / entry.name for entry in machine.entries(folder) if is_name(entry.name)]
+    return [path for path in machine.paths(folder, "*") if is_name(path.name)]
 
 
-def set_aside(machine: Machine, folder: Path, last: str) -> None:
-    """Names all copies behind the last good one as those from before a correction."""
-    for copy in copies_in(machine, folder):
-        if copy.name > last and not copy.name.endswith(CORRECTED):
-            machine.rename(copy, copy.with_name(f"{copy.name}{CORRECTED}"))
-    machine.sync_folder(folder)
+def corrections_in(machine: Machine, folder: Path) -> list[str]:
+    file = folder / CORRECTIONS
+    return machine.read(file).decode().splitlines() if machine.exists(file) else []
+
+
+def corrections_since(machine: Machine, desk: Path, copy: Path) -> list[str]:
+    """Those from before which a copy is, whatever it is named by now and wherever it lay."""
+    lacking = [line for line in corrections_in(machine, desk) if line not in corrections_in(machine, copy)]
+    return [line for line in lacking if not is_name(copy.name) or copy.name > line.partition(" ")[0]]
 
 
 def keep_latest(machine: Machine, folder: Path, count: int, newest: Path) -> None:

@@ -12,10 +12,10 @@ from datetime import date, timedelta
 from pathlib import Path
 from typing import TYPE_CHECKING, NamedTuple
 
-from onixdesk_shop.desk import answers_in, records_of
+from onixdesk_shop.desk import answers_in
 from onixdesk_shop.faults import DONE, FAILED
 from onixdesk_shop.inbox.context import Inbox
-from onixdesk_shop.messages import Product, Records, products_of, text_of
+from onixdesk_shop.messages import Product, Records, products_of, records_of, text_of
 
 if TYPE_CHECKING:
     from onixdesk_shop.inbox.judging import Feed

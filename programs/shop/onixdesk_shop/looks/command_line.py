@@ -50,7 +50,7 @@ def work(machine: Machine, options: argparse.Namespace) -> int:
         question = f"{options.day or machine.today()},{shop.country},{shop.currency},{shop.price_type}"
         priced = count_priced(DeskFile(machine, program, folder / "desk.db"), sample, question)
     lines = [*page.of_feed(sample), f"\nOf {count(len(sample.isbns), 'article')} {priced} have a price: {question}"]
-    lines += [*page.section_of("To look at", page.remarks(sample, shop.price_type, terms))]
+    lines += [*page.section_of("To look at", page.remarks(sample, shop.price_type))]
     lines += [*page.section_of(TO_PASTE, page.lines_to_paste(options.file.name, sample, options.words))]
     if not terms and page.needs_terms(sample, shop.price_type):
         table = page.terms_to_paste(sample, shop.price_type)

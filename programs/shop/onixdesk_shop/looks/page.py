@@ -3,7 +3,6 @@
 import json
 import re
 import shlex
-import tomllib
 from collections.abc import Iterable, Iterator, Mapping
 from functools import partial
 
@@ -69,28 +68,17 @@ def in_words(code: Code) -> str:
     return f"{words}{f' of {scheme}' if scheme else ''}, of prices of type {kind or 'none'}"
 
 
-def remarks(sample: Sample, net: str, terms: bytes | None) -> Iterator[str]:
+def remarks(sample: Sample, net: str) -> Iterator[str]:
     """What follows from that, for a shop that pays prices of the type `net`."""
     yield from sample.remarks
     if updates := sample.types[UPDATE]:
         yield f"{count(updates, 'update')} of products: ask for a full feed first, since a desk drops those it has not"
     if len(sample.suppliers) > 1 and not sample.said.count("SupplyDetail of another supplier"):
         yield "several suppliers: where they are other firms, ask for the sender's own offers (--supplier TYPE,VALUE in WORDS)"
-    if terms is not None and (codes := [*unfitted(sample, terms)]):
-        yield f"no term names these codes: {'; '.join(codes)}"
     if sample.number and is_date(str(sample.number)):
         yield "its number is a date, so that a gap does not show: NUMBER=next"
     if needs_terms(sample, net):
         yield f"no price of type {net}, and what readers pay says nothing of what the shop pays: write terms (TERMS)"
-
-
-def unfitted(sample: Sample, terms: bytes) -> Iterator[str]:
-    """The codes of what readers pay that no term of a table names or takes."""
-    table = tomllib.loads(terms.decode("utf-8-sig")).get("term", [])
-    for (kind, code, scheme), number in sample.codes.items():
-        fitting = (each for each in table if kind in each["types"] and code in each.get("codes", [code]))
-        if is_retail(kind) and not any(scheme == each.get("scheme", scheme) for each in fitting):
-            yield f"{cut(in_words((kind, code, scheme)))}: {number}"
 
 
 def needs_terms(sample: Sample, net: str) -> bool:

@@ -34,7 +34,7 @@ class Sample:
     remarks: list[str]
     types: Counter[str] = field(default_factory=Counter)
     prices: Counter[tuple[str, str]] = field(default_factory=Counter)
-    suppliers: dict[str, int] = field(default_factory=dict)
+    suppliers: Counter[str] = field(default_factory=Counter)
     codes: dict[Code, int] = field(default_factory=dict)
     isbns: dict[str, None] = field(default_factory=dict)
 
@@ -55,17 +55,21 @@ class Sample:
         for product in itertools.chain.from_iterable(map(products_of, self.messages)):
             self.types[product.records[0][2]] += 1
             self.prices.update((record[1], record[3]) for record in product.records if record[0] == "Price")
+            self.suppliers.update(supplier_in(record) for record in product.records if record[0] == "SupplyDetail")
             self.isbns.update(dict.fromkeys(product.isbns))
 
     def read_facts(self, machine: Machine, file: Path) -> None:
         """Counts what the records do not have."""
         try:
-            facts = json.loads(read_by(machine, "feed_facts", file))
+            found = json.loads(read_by(machine, "feed_facts", file))
+            self.codes = {(kind, code, scheme): number for (kind, code, scheme), number in found}
         except BadEnd as end:
-            self.remarks.append(f"suppliers and discount codes are not known: {end}")
-            return
-        self.suppliers = dict(facts["suppliers"])
-        self.codes = {(kind, code, scheme): number for (kind, code, scheme), number in facts["codes"]}
+            self.remarks.append(f"discount codes are not known: {end}")
+
+
+def supplier_in(supply: list[str]) -> str:
+    """The supplier of a SupplyDetail: its identifier, its name, and its role."""
+    return " ".join(filter(None, [",".join(supply[2:4]).strip(","), supply[4], f"(SupplierRole {supply[1]})"]))
 
 
 def converted(

@@ -35,8 +35,5 @@ def work(machine: Machine, options: argparse.Namespace) -> int:
     with copied(machine, options.file) as (copy, taken), machine.reading(copy) as source:
         check_version(source)
         machine.run(call_of(options.database), text=script(source, rules, taken.moment))
-        counts = "SELECT (SELECT count(*) FROM applied), (SELECT count(*) FROM record)"
-        messages, records = source.execute(counts).fetchone()
-    at = time.strftime("as of %Y-%m-%d %H:%M:%S UTC", time.gmtime(taken.moment // 1_000_000_000))
-    machine.write(f"{at}: {messages} messages, {records} records\n")
+    machine.write(time.strftime("as of %F %T UTC\n", time.gmtime(taken.moment // 1_000_000_000)))
     return DONE

@@ -4,7 +4,6 @@ import argparse
 
 from onixdesk_shop.ends import parser_of
 from onixdesk_shop.machine import Machine
-from onixdesk_shop.places import COPIES
 from onixdesk_shop.renewals.renewing import Renewing
 from onixdesk_shop.restores.command_line import PATHS, put
 from onixdesk_shop.restores.placing import Work
@@ -19,7 +18,7 @@ desk is in place, the old one is. After a kill the same command ends what was be
 def command_line() -> argparse.ArgumentParser:
     parser = parser_of("desk-renew", DESCRIPTION, **PATHS)
     parser.add_argument("--yes", action="store_true", help="asks nothing")
-    parser.set_defaults(copies=COPIES, text=None, gaps=False, goes_on=True)
+    parser.set_defaults(text=None, refuse=None, gaps=False, goes_on=True)
     return parser
 
 

@@ -4,11 +4,11 @@ import argparse
 from pathlib import Path
 
 from onixdesk_shop.ends import parser_of
-from onixdesk_shop.copies.keeping import CORRECTED
+from onixdesk_shop.copies.keeping import corrections_since
 from onixdesk_shop.faults import DONE, FAILED, Failed, Fault
 from onixdesk_shop.lines import ERROR, WARNING
 from onixdesk_shop.machine import Machine
-from onixdesk_shop.places import COPIES, DESK_FILE, INBOX_SETTINGS, INBOXES, PROGRAM
+from onixdesk_shop.places import DESK_FILE, INBOX_SETTINGS, INBOXES, PROGRAM
 from onixdesk_shop.restores.inboxes import inboxes_in, wait_for_all
 from onixdesk_shop.restores.restoring import Restore
 from onixdesk_shop.units import DESK, Units
@@ -24,23 +24,31 @@ After a kill the same command ends what was begun."""
 
 
 def command_line() -> argparse.ArgumentParser:
-    parser = parser_of("desk-restore", DESCRIPTION, **PATHS, copies=COPIES)
+    parser = parser_of("desk-restore", DESCRIPTION, **PATHS)
     parser.set_defaults(goes_on=True)
     add = parser.add_argument
     add("--yes", action="store_true", help="asks nothing")
     add("--gaps", action="store_true", help="accepts a copy that lacks messages which no inbox can post again")
     add("--before-correction", action="store_true", help="accepts a copy from before a correction of the desk's text")
     add("--text", metavar="FILE", type=Path, help="puts a desk into place that is made of this corrected text of COPY")
+    add(
+        "--said",
+        metavar="TEXT",
+        default="what was refused is left out",
+        help="what was corrected, for the file corrections beside it",
+    )
+    add("--refuse", metavar=("MARK", "SERIES"), nargs=2, help="has the inbox refuse this file, once you said yes")
     add("copy", metavar="COPY", type=Path, help="a folder with the two files of a desk, of the name of the desk's")
     return parser
 
 
 def work(machine: Machine, options: argparse.Namespace) -> int:
     options.copy = options.copy.resolve()
-    if options.copy.name.endswith(CORRECTED):
-        if not options.before_correction:
-            raise Failed(f"{options.copy}: it is from before a correction of the desk's text (--before-correction)")
-        machine.tell(WARNING, "the correction of the desk's text has to be made again")
+    made = corrections_since(machine, options.db.parent, options.copy)
+    if made and not options.before_correction:
+        raise Failed(f"{options.copy}: it is from before a correction (--before-correction): {made[0]}")
+    for line in made:
+        machine.tell(WARNING, f"has to be made again: {line}")
     return put(machine, Restore(machine, options), options.yes)
 
 

@@ -86,14 +86,7 @@ class Inbox:
 
 def inboxes_in(machine: Machine, folder: Path, settings: Path) -> list[Inbox]:
     """Those that have a ledger."""
-    if not machine.exists(folder):
-        return []
-    names = [entry.name for entry in machine.entries(folder)]
-    return [
-        Inbox(machine, name, folder / name / LEDGER, settings)
-        for name in names
-        if machine.exists(folder / name / LEDGER)
-    ]
+    return [Inbox(machine, path.parent.name, path, settings) for path in machine.paths(folder, f"*/{LEDGER}")]
 
 
 def wait_for_inbox(inbox: Inbox, numbers: list[int], goes_on: bool) -> bool:
@@ -106,9 +99,7 @@ def wait_for_inbox(inbox: Inbox, numbers: list[int], goes_on: bool) -> bool:
     while True:
         gaps = desk.gaps(inbox.series)
         if gaps is None:
-            machine.tell(
-                ERROR, f"{inbox.agreement()}; the desk has agreed no series {inbox.series}, and its files wait"
-            )
+            machine.tell(ERROR, f"{inbox.agreement()}; no series {inbox.series} is agreed, and its files wait")
             return False
         again = inbox.again(gaps)
         before, left = left, {number for number in left if gaps.lacks(number)} | set(again.numbers)
@@ -128,13 +119,10 @@ def wait_for_inbox(inbox: Inbox, numbers: list[int], goes_on: bool) -> bool:
 
 def wait_for_all(machine: Machine, inboxes: list[Inbox], planned: dict[str, list[int]], units: list[str]) -> bool:
     """Until the desk answers, and has again what the inboxes post, as far as these units run them. Whether it has all."""
-    has_all = True
     try:
         if not inboxes:
             Desk(machine, BATCHES, PATIENCE).gaps("north")
-        for inbox in inboxes:
-            has_all &= wait_for_inbox(inbox, planned.get(inbox.series, []), inbox.goes_on(units))
+        return all([wait_for_inbox(each, planned.get(each.series, []), each.goes_on(units)) for each in inboxes])
     except Fault as fault:
         machine.tell(ERROR, str(fault))
         return False
-    return has_all

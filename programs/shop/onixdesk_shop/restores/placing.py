@@ -4,10 +4,9 @@ It has `units`, what is to be started again; `new`, which is being made, and in 
 whole and on the disk. What a run that was killed has left there tells the next one how far it was.
 """
 
-import time
 from pathlib import Path
 
-from onixdesk_shop.copies.keeping import NAME
+from onixdesk_shop.copies.keeping import named
 from onixdesk_shop.desk_files import log_of
 from onixdesk_shop.lines import WARNING
 from onixdesk_shop.machine import Machine
@@ -37,10 +36,7 @@ class Work:
 
     def ready(self) -> Path | None:
         """The folder of a new desk that is to get its place, or has got it."""
-        if not self.machine.exists(self.folder):
-            return None
-        names = [entry.name for entry in self.machine.entries(self.folder) if entry.name.startswith(READY)]
-        return self.folder / names[0] if names else None
+        return next(iter(self.machine.paths(self.folder, f"{READY}*")), None)
 
     def before(self, second: str) -> Path:
         """The name of what stood there before that second."""
@@ -55,10 +51,8 @@ class Work:
         for file in (self.new, log_of(self.new)):
             machine.own(file, self.database.parent)
         machine.sync_folder(self.new.parent)
-        second = time.strftime(NAME, time.gmtime(machine.now()))
-        while machine.exists(self.before(second)):
+        while machine.exists(self.before(second := named(machine.now()))):
             machine.sleep(0.2)
-            second = time.strftime(NAME, time.gmtime(machine.now()))
         machine.rename(self.new.parent, self.folder / f"{READY}{second}")
         machine.sync_folder(self.folder)
 

@@ -1,14 +1,15 @@
 """One restore: what it is to put into place, what is said before, and the exchange."""
 
 import argparse
+import io
 
 from onixdesk_shop.batches import send
-from onixdesk_shop.copies.copying import copy_desk
-from onixdesk_shop.copies.keeping import set_aside
+from onixdesk_shop.copies.copying import copied
+from onixdesk_shop.copies.keeping import CORRECTIONS, corrections_in, is_name, named
 from onixdesk_shop.desk_files import Contents, DeskFile, check, contents_of
 from onixdesk_shop.ends import program_of
 from onixdesk_shop.faults import Failed, Fault
-from onixdesk_shop.lines import ERROR, NOTICE, WARNING, cut, ranges
+from onixdesk_shop.lines import ERROR, NOTICE, WARNING, cut, ranges, shown
 from onixdesk_shop.machine import Machine
 from onixdesk_shop.places import LEDGER, LEDGERS
 from onixdesk_shop.restores.inboxes import Inbox, inboxes_in
@@ -38,7 +39,7 @@ class Restore:
         """Failed where the copy, or the desk that its corrected text makes, is not sound."""
         machine, options, name = self.machine, self.options, self.options.db.name
         # SQLite leaves the third where somebody has looked at a copy.
-        found = {entry.name for entry in machine.entries(options.copy)} - {f"{name}-shm", LEDGERS}
+        found = {entry.name for entry in machine.entries(options.copy)} - {f"{name}-shm", LEDGERS, CORRECTIONS}
         if name not in found or found - {name, f"{name}-wal"}:
             raise Fault(f"{options.copy}: it has not {name} and its log alone")
         self.work.begin()
@@ -48,7 +49,7 @@ class Restore:
         self.base = contents_of(machine, self.work.new)
         if options.text:
             self.work.begin()
-            send(self.desk, machine.lines_of(options.text))
+            send(self.desk, io.BytesIO(machine.read(options.text)))
 
     def send_since(self, present: Contents) -> None:
         """Tells the new desk the agreements and waivers that the present one has and the copy lacked."""
@@ -69,16 +70,12 @@ class Restore:
         machine, database = self.machine, self.options.db
         if not machine.exists(database):
             return Contents()
-        folder = self.work.folder / "present"
-        machine.make_folder(folder)
         try:
-            copy_desk(machine, database, folder)
-            return contents_of(machine, folder / database.name)
+            with copied(machine, database) as (copy, _):
+                return contents_of(machine, copy)
         except Fault as fault:
             machine.tell(WARNING, f"what the present desk was told since is not known: {fault}")
             return Contents()
-        finally:
-            machine.remove_tree(folder)
 
     # What is said before
 
@@ -117,10 +114,7 @@ class Restore:
         return found
 
     def ledgers_of_copy(self) -> list[str]:
-        folder = self.options.copy / LEDGERS
-        if not self.machine.exists(folder):
-            return []
-        return [entry.name[:-3] for entry in self.machine.entries(folder) if entry.name.endswith(".db")]
+        return [path.stem for path in self.machine.paths(self.options.copy / LEDGERS, "*.db")]
 
     def is_wanted(self, is_told: bool) -> bool:
         """Says what comes, and asks. Failed where something is lost and nobody said that it may."""
@@ -145,12 +139,13 @@ class Restore:
         self.stop()
         if machine.is_open(options.db):
             raise Fault(f"{options.db}: another program has it open; stop it before")
+        if options.refuse:
+            machine.run(["onixdesk-inbox", "--refuse", *options.refuse])
         self.prepare(self.present())
         work.make_ready()
         self.put_ledgers_back()
-        if (options.text or self.has_refused) and machine.exists(options.copies):
-            is_among = not options.text and options.copy.parent == options.copies.resolve()
-            set_aside(machine, options.copies, options.copy.name if is_among else "")
+        if options.text or self.has_refused:
+            self.note_correction()
         before = work.put_in_place()
         stood = f"the one before is {before}" if machine.exists(before) else "there was none before"
         machine.tell(NOTICE, f"the desk is in place as {options.db}; {stood}")
@@ -161,6 +156,13 @@ class Restore:
         self.machine.write_whole(self.work.folder / "units", units, 0o600)
         if self.units.all:
             self.units.systemctl("stop", *self.units.all)
+
+    def note_correction(self) -> None:
+        """Copies until the one that is put into place are right where what was refused is not in it."""
+        options, folder = self.options, self.options.db.parent
+        last = options.copy.name if not options.text and is_name(options.copy.name) else ""
+        lines = [*corrections_in(self.machine, folder), f"{last} {named(self.machine.now())}: {shown(options.said)}\n"]
+        self.machine.write_whole(folder / CORRECTIONS, "\n".join(lines).encode(), 0o600)
 
     def put_ledgers_back(self) -> None:
         """A ledger of the copy has its place where there is none."""

@@ -53,14 +53,18 @@ def interrupted(kind: str, room: Room) -> Iterator[Outcome]:
 
 def written_to(room: Room) -> Iterator[Outcome]:
     """A file that somebody writes to, amid a run, is taken whole, whatever was copied of it before."""
-    for step, wanted in ("copied", ["applied"]), ("rename", ["applied", "refused"]):
+    for step, wanted in ("copied", []), ("rename", ["refused"]):
         inbox = inbox_in(room, step, number=NEXT)
         inbox.send("b.xml", FILES["b.xml"][:-9])
         machine = FakeMachine(inbox.disk, inbox.desk, inbox.clock, ("meanwhile", step, 1))
         machine.meanwhile = partial(inbox.send, "b.xml", FILES["b.xml"], inbox.clock - 1)
         inbox.run(machine)
+        yield Outcome(f"before it is {step}", [*inbox.states().values()], wanted)
+        # The bytes that it had come again before what took their place is taken.
+        inbox.take("a.xml", FILES["b.xml"][:-9])
         inbox.run()
-        yield Outcome(f"before it is {step}", sorted(file.state for file in inbox.files()), wanted)
+        found = sorted(inbox.states().values()), os.listdir(inbox.incoming)
+        yield Outcome(f"{step}, and all is taken", found, (["applied", "refused"], []))
 
 
 KINDS = "kill", "power", "torn", "error", "signal"

@@ -2,7 +2,7 @@
 
 from collections.abc import Sequence
 
-from onixdesk_shop.faults import DONE, BadCall, Failed
+from onixdesk_shop.faults import DONE, Failed
 from onixdesk_shop.inbox.context import Inbox
 from onixdesk_shop.inbox.ledger import Decision, File, State
 from onixdesk_shop.lines import ranges, token
@@ -10,17 +10,11 @@ from onixdesk_shop.settings import OWN
 
 
 def file_of(inbox: Inbox, mark: str) -> File:
-    """The file that a mark names: the first letters of a digest, and which taking of it."""
-    digest, _, taking = mark.partition(".")
-    if len(digest) < 8 or not digest.isalnum() or taking and not taking.isdigit():
-        raise BadCall(f"{token(mark)} is no mark of a file: at least 8 letters of its digest")
-    found = inbox.ledger.files("substr(digest, 1, ?) = ?", len(digest), digest)
-    if len({file.digest for file in found}) != 1:
+    """The file that has a mark, as the lines have it."""
+    found = [file for file in inbox.ledger.files("substr(digest, 1, 12) = ?", mark[:12]) if file.mark == mark]
+    if len(found) != 1:
         raise Failed(f"{len(found)} files have the mark {token(mark)}")
-    of_taking = [file for file in found if not taking or file.taking == int(taking)]
-    if not of_taking:
-        raise Failed(f"no file has the mark {token(mark)}")
-    return max(of_taking, key=lambda file: file.taking)
+    return found[0]
 
 
 def let_in(inbox: Inbox, file: File) -> str:
@@ -43,7 +37,8 @@ def refuse(inbox: Inbox, file: File) -> str:
         return "is not posted again; what the desk has of it stays until it is corrected"
     if file.number and inbox.settings.number == OWN:
         last = file.number + (0 if file.ending == ".csv" else inbox.settings.parts - 1)
-        command = f"onixdesk-inbox waive {inbox.series} {file.number}" + f"-{last}" * (last > file.number)
+        numbers = file.number if last == file.number else f"{file.number}-{last}"
+        command = f"onixdesk-inbox waive {inbox.series} {numbers}"
         return f"is refused; unless it is sent again, its numbers have to be waived: {command}"
     return "is refused"
 
@@ -98,7 +93,8 @@ def waive(inbox: Inbox, numbers: Sequence[int]) -> int:
 
 
 def take_back(inbox: Inbox, numbers: Sequence[int]) -> int:
-    """The waivers of numbers are not made again. The desk has them until its text is corrected."""
+    """The waivers of numbers are not made again. The desk has them until its text is corrected, also one that an older
+    copy brings."""
     with inbox.ledger.step():
         for number in {*inbox.ledger.waived()}.intersection(numbers):
             inbox.ledger.decide(Decision.UNWAIVE, number=number)

@@ -6,6 +6,7 @@ from __future__ import annotations
 from dataclasses import replace
 from typing import TYPE_CHECKING
 
+from onixdesk_shop.batches import MOST_BYTES
 from onixdesk_shop.desk import Gaps
 from onixdesk_shop.inbox.context import Inbox
 from onixdesk_shop.inbox.ledger import File, Message, Row, State
@@ -20,7 +21,7 @@ if TYPE_CHECKING:
 # The pair of identifiers of a record that is deleted.
 OF_REFERENCE = "01"
 
-MOST_BYTES, MOST_RECORDS = 4_194_304, 20_000
+MOST_RECORDS = 20_000
 
 # After so many full files in a row that deleted nothing for a reason, somebody has to look.
 IN_A_ROW = 3

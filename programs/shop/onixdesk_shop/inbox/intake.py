@@ -105,8 +105,10 @@ def is_as_it_was(inbox: Inbox, entry: Entry) -> bool:
 
 def remove(inbox: Inbox, entry: Entry, mark: str) -> None:
     """Removes a file that is in the store. It gets a name of ours first: what took its place meanwhile is taken by the
-    next run."""
+    next run, before that name is used again."""
     taken = inbox.incoming / f"taken-{mark}{Path(entry.name).suffix.lower()}"
+    if entry.name != taken.name and inbox.machine.exists(taken):
+        return
     try:
         inbox.machine.rename(inbox.incoming / entry.name, taken)
     except FileNotFoundError:

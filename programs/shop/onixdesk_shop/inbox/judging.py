@@ -9,6 +9,7 @@ from collections import Counter
 from dataclasses import dataclass, field
 from pathlib import Path
 
+from onixdesk_shop.batches import MOST_BYTES
 from onixdesk_shop.desk import Gaps, Refused, Taken
 from onixdesk_shop.faults import Fault
 from onixdesk_shop.feeds import Refusal, Said, check, convert
@@ -21,8 +22,6 @@ from onixdesk_shop.lines import ERROR, NOTICE, WARNING, cut, ranges
 from onixdesk_shop.messages import header_of, is_message, products_of
 from onixdesk_shop.places import WORK
 from onixdesk_shop.settings import OWN
-
-MOST_BYTES = 4_194_304
 
 # With more records of one ISBN a question about it keeps all others waiting.
 MOST_RECORDS_OF_ONE_ISBN = 1000

@@ -58,7 +58,7 @@ def of_the_week(inbox: Inbox) -> Iterator[str]:
 
 
 def not_alike(inbox: Inbox, gaps: Gaps | None) -> Iterator[str]:
-    """What the agreement, desk.json or the terms have otherwise than the settings. The terms may be no table."""
+    """What the agreement, desk.json or the terms have otherwise than the settings. The table of terms may be a wrong one."""
     settings, shop = inbox.settings, inbox.shop
     if gaps:
         if inbox.ledger.files("state = 'refused' AND why = ?", REASONS["unknown-series"]):

@@ -26,6 +26,8 @@ done
 work=$(mktemp -d /var/tmp/onixdesk.XXXXXX)
 trap 'rm -rf "$work"' EXIT
 cd "$work"
+# What a run that was killed began is ended first.
+[ ! -e "${desk%/*}/.${desk##*/}.work" ] || desk-restore --yes none || :
 desk-copy "$desk" before
 onixdesk --db "before/${desk##*/}" --existing export >before.csv
 next=$(onixdesk --db "before/${desk##*/}" --existing gaps | sed -n 's/^gaps,\([^,]*\),.*,\(next=[0-9]*\),.*/\1 \2, /p')

@@ -66,8 +66,7 @@ unverified() {
 # How many seconds ago it was 30 days before that time.
 age_of() { local now; now=$(date +%s); echo $((30 * 86400 + (now > $1 ? now - $1 : 0))); }
 
-# Which files are asked for: all at first, and where the server gives no times; else what is not much older than the
-# last success.
+# What is asked for: all at first and of a server without times, else what is not much older than the last success.
 choose() {
     local times
     asked=(--max-depth 1 --include "/${NAMES:-*}" --ignore-case --max-size 4G)

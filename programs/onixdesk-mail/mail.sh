@@ -1,9 +1,8 @@
 #!/bin/sh
 # Mails what the units of onixdesk have said since the last time, where one of them has failed or has written an error.
 #     mail.sh ADDRESS FOLDER [SETTINGS INBOX]
-# FOLDER keeps how far the journal was read, and is the user's of this script alone. It needs journalctl, the right to
-# read the journal, and sendmail, as each of Debian's mail servers brings it. Each Monday INBOX, onixdesk-inbox, reports
-# on each series of the folder SETTINGS.
+# FOLDER keeps how far the journal was read, and is the user's of this script alone. It needs the right to read the
+# journal, and a mail server's sendmail. Each Monday INBOX, onixdesk-inbox, reports on each series of SETTINGS.
 # Status 0, also where there is nothing to mail; 1 where a mail could not be sent: then the next one has its lines too.
 set -u
 address=$1 folder=$2 settings_folder=${3-/etc/onixdesk/inbox} inbox=${4-/usr/share/onixdesk/bin/onixdesk-inbox}

@@ -6,12 +6,17 @@ from collections.abc import Callable
 from tests.kills.of_copies import OfCopy, OfRestore
 from tests.kills.of_fetch import OfFetch
 from tests.kills.of_inbox import OfInbox
-from tests.kills.of_programs import OfPrices, OfRenewal
+from tests.kills.of_programs import OfCorrection, OfPrices, OfRenewal
 from tests.kills.scenarios import Judged, Scenario, at_each_call, by_chance
 from tests.program.room import Room
 
 AT_EACH_CALL: dict[str, Callable[[Room], Scenario]] = {"inbox": OfInbox, "copy": OfCopy, "restore": OfRestore}
-BY_CHANCE: dict[str, Callable[[Room], Scenario]] = {"renewal": OfRenewal, "prices": OfPrices, "fetch": OfFetch}
+BY_CHANCE: dict[str, Callable[[Room], Scenario]] = {
+    "renewal": OfRenewal,
+    "correction": OfCorrection,
+    "prices": OfPrices,
+    "fetch": OfFetch,
+}
 
 NAMES = [*AT_EACH_CALL, *BY_CHANCE]
 

@@ -6,7 +6,9 @@ from collections.abc import Iterator, Mapping, Sequence
 
 from tests.kills.scenarios import Scenario, run_again
 from tests.program.inbox.fetching import SCRIPT, Fetch, sftp
+from tests.program.inbox.inboxes import script
 from tests.program.room import Ran, Room
+from tests.running import Outcome
 from tools.words import Word
 
 NAMES = {"a.xml": "one" * 9000, "b c.xml": "two", "waits.xml": "new"}
@@ -58,3 +60,21 @@ class OfFetch(Scenario):
 
     def close(self) -> None:
         self.server.__exit__(None, None, None)
+
+
+def disk_that_takes_nothing(room: Room) -> Iterator[Outcome]:
+    """What the disk has not is neither removed from the server nor shown to the inbox."""
+    scenario = OfFetch(room)
+    room.path("bin").mkdir()
+    environment = {**scenario.environment(), "PATH": f"{room.path('bin')}:{os.environ['PATH']}"}
+    try:
+        for word, left in ("--file-system", sorted(NAMES)), ("--", []):
+            scenario.prepare()
+            script(room, "bin/sync", f'[ "$1" != {word} ] || exit 1; exec /usr/bin/sync "$@"')
+            ran = run_again(room, scenario.words(), environment)
+            shown = [path.name for path in scenario.fetch.incoming.iterdir() if not path.name.startswith(".")]
+            found = ran.status, sorted(os.listdir(scenario.fetch.files)), shown
+            yield Outcome(f"fetch: sync {word} fails", found, (1, left, ["waits.xml"]))
+            yield Outcome(f"fetch: behind a sync {word} that failed", [*scenario.wrong_at_end()], [])
+    finally:
+        scenario.close()

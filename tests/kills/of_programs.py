@@ -1,4 +1,4 @@
-"""desk-prices, which replaces a file, and desk-renew, which replaces a desk."""
+"""desk-prices, which replaces a file, and what replaces a desk: desk-renew, and correct.sh with all that it calls."""
 
 import json
 import os
@@ -102,3 +102,33 @@ class OfRenewal(OfRestore):
         names = [name for name in data if name.startswith(f"{DATABASE}.") and not name.endswith("-wal")]
         logs = [f"{name}-wal" for name in names]
         return [{DATABASE: data[name], f"{DATABASE}-wal": data[log]} for name, log in zip(names, logs) if log in data]
+
+
+class OfCorrection(OfRenewal):
+    """The second message is taken out of a desk's text, on a machine where no unit runs."""
+
+    def __init__(self, room: Room) -> None:
+        super().__init__(room)
+        room.path("tmp").mkdir()
+        batch(room, (AGREEMENTS + message(NORTH, 1, *product("R1"))).encode())
+        self.moved("wanted")
+        self.wanted = self.rows_in("wanted")
+        places = f"--db={room.path('desk')}/{DATABASE} --inboxes=none --settings=none"
+        self.script("onixdesk", f'exec "{room.program}" "$@"')
+        self.script("desk-copy", f'exec "{ROOT}/bin/desk-copy" "$@"')
+        self.script("desk-restore", f'exec "{ROOT}/bin/desk-restore" {places} --yes "$@"')
+        text = ROOT.joinpath("programs/desk-restore/correct.sh").read_text(encoding="utf-8")
+        text = text.replace("/var/lib/onixdesk/shop.db", f"{room.path('desk')}/{DATABASE}")
+        self.script("correct", text.partition("\n")[2].replace("/var/tmp/", f"{room.path('tmp')}/"))
+
+    def words(self) -> Sequence[Word]:
+        return [self.room.path("programs/correct"), "/^Message,2,06,N,06,S,2,/,/^EndMessage,/d"]
+
+    def is_sound(self) -> bool:
+        return self.rows_in("desk") in (self.rows, self.wanted)
+
+    def wrong_at_end(self) -> Iterator[str]:
+        """Where it had done all, it finds no line that changes."""
+        yield from super().wrong_at_end()
+        if self.rows_in("desk") != self.wanted:
+            yield "what stands there is not corrected"

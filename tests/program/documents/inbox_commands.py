@@ -159,6 +159,11 @@ def an_address_with_a_date(room: Room) -> Iterator[Outcome]:
         os.utime(room.path(f"server/{name}"), (1_000_000_000, 1_000_000_000))
     text = "\n".join(block_with("#!/bin/bash")).replace("https://example.org", f"file://{room.path('server')}")
     incoming = room.path("var/lib/onixdesk-incoming/north")
+    script(room, "bin/sync", "exit 1")
+    desk.run([text])
+    found = sorted(path.name for path in incoming.iterdir()), [*room.path("var/lib/onixdesk-fetch").rglob("*.done")]
+    yield Outcome(f"{PAGE}: the script on a disk that takes nothing", found, ([".new.part"], []))
+    room.path("bin/sync").unlink()
     desk.run([text])
     found = [(path.name, path.read_text(), int(path.stat().st_mtime)) for path in sorted(incoming.iterdir())]
     yield Outcome(f"{PAGE}: the script", found, [(name, name, 1_000_000_000) for name in names])

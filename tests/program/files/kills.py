@@ -5,6 +5,7 @@ from functools import partial
 
 from tests.kills import AT_EACH_CALL, BY_CHANCE, killed
 from tests.kills.of_desk import at_some_moments
+from tests.kills.of_fetch import disk_that_takes_nothing
 from tests.program.room import Group, Room, needs
 from tests.running import Outcome
 
@@ -25,6 +26,11 @@ def at_calls(name: str, room: Room) -> Iterator[Outcome]:
 
 def desk(room: Room) -> Iterator[Outcome]:
     return at_some_moments(room)
+
+
+@needs("sshd", "rclone")
+def fetch_without_a_disk(room: Room) -> Iterator[Outcome]:
+    return disk_that_takes_nothing(room)
 
 
 # One kill of the script that fetches takes as long as all of the others; fetching.py has one.

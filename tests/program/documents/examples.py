@@ -34,6 +34,12 @@ def block(document: str, first: str) -> list[str]:
     return next(lines for lines in blocks(document) if lines[0].startswith(first))
 
 
+def block_with(document: str, text: str) -> list[str]:
+    """The one block that has this text."""
+    (found,) = (lines for lines in blocks(document) if text in "\n".join(lines))
+    return found
+
+
 def written(lines: list[str]) -> bytes:
     return "".join(f"{line}\n" for line in lines).encode()
 

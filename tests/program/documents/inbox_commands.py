@@ -4,7 +4,7 @@ import datetime
 import os
 from collections.abc import Iterator
 
-from tests.program.documents.examples import blocks, written
+from tests.program.documents.examples import block_with, blocks, written
 from tests.program.documents.mistakes import AGREED, AGREEMENT, TERMS, mark
 from tests.program.files.machines import Machine, feed, machine
 from tests.program.inbox.inboxes import script
@@ -20,17 +20,11 @@ MARK = "3f2a90c41b77"
 ISBN = "9781234567897"
 
 
-def block_with(text: str) -> list[str]:
-    """The one block that has this text."""
-    (found,) = (lines for lines in blocks(PAGE) if text in "\n".join(lines))
-    return found
-
-
 def what_is_shown(room: Room) -> Iterator[Outcome]:
     with machine(room, AGREEMENT.format("4012345000009", 41)) as desk:
         data = feed(41, a="8.00")
         desk.take({"feed.xml": data})
-        *commands, _ = block_with("onixdesk-inbox report north")
+        *commands, _ = block_with(PAGE, "onixdesk-inbox report north")
         found = [desk.run([command]) for command in commands]
         yield Outcome(f"{PAGE}: its commands", [(ran.status, ran.errors) for ran in found], [(0, b"")] * 4)
         report, number, isbn, file = (ran.output.decode() for ran in found)
@@ -58,7 +52,7 @@ def problems(room: Room) -> Iterator[Outcome]:
 def a_number_that_never_comes(room: Room) -> Iterator[Outcome]:
     with machine(room, AGREEMENT.format("4012345000009", 41)) as desk:
         desk.take({"feed.xml": feed(42, a="8.00")})
-        *_, command = block_with("onixdesk-inbox report north")
+        *_, command = block_with(PAGE, "onixdesk-inbox report north")
         yield Outcome(f"{PAGE}: {command}", desk.run([command]).status, 0)
         yield Outcome(f"{PAGE}: what waited for it", desk.take({}), {"feed.xml": "applied"})
 
@@ -69,7 +63,7 @@ def a_file_that_is_quarantined(room: Room) -> Iterator[Outcome]:
         data = feed(1000, a="8.00")
         desk.put({"sale.xml": data})
         said = desk.run(["onixdesk-inbox -- north"]).errors.decode()
-        (line,) = block_with("--let-in")
+        (line,) = block_with(PAGE, "--let-in")
         begin = line.partition("40 of")[0].replace(MARK, mark(data))
         yield Outcome(f"{PAGE}: the line", (begin in said, said.strip().endswith("; sale.xml")), (True, True))
         let_in, refuse, _ = begin.split("; ", 2)
@@ -81,7 +75,7 @@ def taken_again(room: Room) -> Iterator[Outcome]:
     with machine(room, AGREED, NUMBER="next") as desk:
         data = feed(None, a="8.00")
         desk.take({"feed.xml": data})
-        (command,) = block_with("--again")
+        (command,) = block_with(PAGE, "--again")
         ran = desk.run([command.replace(MARK, mark(data))])
         desk.take({})
         wanted = ["gaps,north,first=1,next=3,greatest=2,held=0,missing=0"]
@@ -99,12 +93,12 @@ def set_up_and_removed(room: Room) -> Iterator[Outcome]:
         for name in ("addgroup", "adduser", "journalctl"):
             script(room, f"bin/{name}", f'echo "{name} $*" >>"{room.path("calls")}"')
         script(room, "bin/install", 'shift 5; exec /usr/bin/install -d "$@"')
-        ran = desk.run(["set -e", *block_with("addgroup")])
+        ran = desk.run(["set -e", *block_with(PAGE, "addgroup")])
         yield Outcome(f"{PAGE}: an inbox is set up", (ran.status, ran.errors), (0, b""))
         yield Outcome(f"{PAGE}: its settings", desk.run(["onixdesk-inbox north"]).status, 0)
         mode = room.path("var/lib/onixdesk-incoming/north").stat().st_mode & 0o7777
         yield Outcome(f"{PAGE}: its folder", mode, 0o2770)
-        lines = block_with("systemctl disable")
+        lines = block_with(PAGE, "systemctl disable")
         yield Outcome(f"{PAGE}: it is removed", desk.run(lines).status, 0)
         units = room.path("units").read_text().splitlines()
         begun, ended = (line.split()[2:] for line in units if "north.path" in line)
@@ -114,7 +108,7 @@ def set_up_and_removed(room: Room) -> Iterator[Outcome]:
 @needs("sshd")
 def uploads_by_sftp(room: Room) -> Iterator[Outcome]:
     room.call(["ssh-keygen", "-q", "-t", "ed25519", "-N", "", "-f", "host"])
-    lines = [f"HostKey {room.path('host')}", *block_with("Match Group")]
+    lines = [f"HostKey {room.path('host')}", *block_with(PAGE, "Match Group")]
     os.makedirs("/run/sshd", exist_ok=True)
     room.write("sshd.conf", written(lines))
     ran = room.call(["/usr/sbin/sshd", "-t", "-f", room.path("sshd.conf")])
@@ -132,7 +126,7 @@ def fetched_by_sftp(room: Room) -> Iterator[Outcome]:
     room.write("etc/onixdesk/fetch/example.env", example)
     script(room, "bin/ssh-keyscan", f'echo "$1 $(cat "{folder / "host.pub"}")"')
     script(room, "bin/journalctl", "")
-    ran = desk.run(["set -e", *block_with("ssh-keyscan")])
+    ran = desk.run(["set -e", *block_with(PAGE, "ssh-keyscan")])
     yield Outcome(f"{PAGE}: the block of SFTP", ran.status, 0)
     shown = room.call(["rclone", "--config", folder / "north.conf", "config", "show", "north"]).output.decode()
     values = dict(line.split(" = ", 1) for line in shown.splitlines() if " = " in line)
@@ -157,7 +151,7 @@ def an_address_with_a_date(room: Room) -> Iterator[Outcome]:
     for name in names:
         room.write(f"server/{name}", name.encode())
         os.utime(room.path(f"server/{name}"), (1_000_000_000, 1_000_000_000))
-    text = "\n".join(block_with("#!/bin/bash")).replace("https://example.org", f"file://{room.path('server')}")
+    text = "\n".join(block_with(PAGE, "#!/bin/bash")).replace("https://example.org", f"file://{room.path('server')}")
     incoming = room.path("var/lib/onixdesk-incoming/north")
     script(room, "bin/sync", "exit 1")
     desk.run([text])

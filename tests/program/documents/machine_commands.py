@@ -5,7 +5,7 @@ import sqlite3
 from collections.abc import Iterator
 from contextlib import closing
 
-from tests.program.documents.examples import blocks
+from tests.program.documents.examples import block_with, blocks
 from tests.program.documents.mistakes import AGREED, AGREEMENT, mark
 from tests.program.files.machines import DESK, Machine, feed, machine
 from tests.program.room import Room
@@ -18,12 +18,6 @@ PAGE = "docs/RELIABILITY.md"
 SECOND = "2026-11-27T02-30-12Z"
 
 
-def block_with(text: str) -> list[str]:
-    """The one block that has this text."""
-    (found,) = (lines for lines in blocks(PAGE) if text in "\n".join(lines))
-    return [line.strip() for line in found]
-
-
 def without_numbers(text: str) -> str:
     return re.sub("[0-9]+", "N", text)
 
@@ -34,8 +28,8 @@ def a_copy_is_restored(room: Room) -> Iterator[Outcome]:
         full = feed(7, a="8.00")
         desk.take({"full-20261127.xml": full})
         (copy,) = (path.name for path in room.path("var/lib/onixdesk-copies").iterdir() if path.is_dir())
-        ran = desk.run(["\n".join(block_with("ls /var/lib/onixdesk-copies")).replace(SECOND, copy)])
-        said = "\n".join([copy, *block_with("the copy waits for number")]).replace("3f9a0c51d2b7", mark(full))
+        ran = desk.run(["\n".join(block_with(PAGE, "ls /var/lib/onixdesk-copies")).replace(SECOND, copy)])
+        said = "\n".join([copy, *block_with(PAGE, "the copy waits for number")]).replace("3f9a0c51d2b7", mark(full))
         yield Outcome(f"{PAGE}: a restore", (ran.status, ran.output.decode().strip()), (0, said))
         yield Outcome(f"{PAGE}: what came since", desk.prices(), {"a": ["8.000"]})
 
@@ -44,7 +38,7 @@ def moved_to_another_machine(room: Room) -> Iterator[Outcome]:
     """There is no desk there, nor a ledger, and the copy has both."""
     with machine(room, AGREED) as desk:
         desk.take({"1.xml": feed(1, a="8.00")})
-        first, *others = block_with("desk-copy --inboxes")
+        first, *others = block_with(PAGE, "desk-copy --inboxes")
         yield Outcome(f"{PAGE}: {first}", desk.run([first]).status, 0)
         desk.run(["systemctl stop onixdesk.service", "rm -r /var/lib/onixdesk/* /var/lib/onixdesk-inbox/*"])
         ran = desk.run(others)
@@ -64,7 +58,7 @@ def renewed_and_back(room: Room) -> Iterator[Outcome]:
         (line,) = (lines for lines in blocks(PAGE) if lines == ["desk-renew"])
         ran = desk.run(line)
         said = ran.output.decode().splitlines()[0]
-        (shown,) = block_with("north: begins at")
+        (shown,) = block_with(PAGE, "north: begins at")
         yield Outcome("renewal: its status", (ran.status, ran.status and ran.errors), (0, 0))
         yield Outcome("renewal: what is said", without_numbers(said), without_numbers(shown))
         yield Outcome("renewal: the prices", desk.prices(), before)
@@ -72,7 +66,7 @@ def renewed_and_back(room: Room) -> Iterator[Outcome]:
         behind = {"a": ["8.500"], "b": ["9.500"], "c": ["7.000"]}
         yield Outcome("renewal: the prices then", desk.prices(), behind)
         (kept,) = (path.name.split(".")[-1] for path in room.folder.glob("var/lib/onixdesk/shop.db.2*Z"))
-        ran = desk.run(["\n".join(["set -e", *block_with("mkdir /var/tmp/before")]).replace(SECOND, kept)])
+        ran = desk.run(["\n".join(["set -e", *block_with(PAGE, "mkdir /var/tmp/before")]).replace(SECOND, kept)])
         yield Outcome("renewal: the way back", (ran.status, ran.status and ran.errors), (0, 0))
         report = ["gaps,north,first=1,next=5,greatest=4,held=0,missing=0"]
         yield Outcome("renewal: the old desk", (desk.ask("AskGaps,north"), desk.prices()), (report, behind))
@@ -81,7 +75,7 @@ def renewed_and_back(room: Room) -> Iterator[Outcome]:
 def mails_are_sent(room: Room) -> Iterator[Outcome]:
     desk = Machine(room)
     room.write("etc/onixdesk/mail.conf", (ROOT / "programs/onixdesk-mail/mail.conf").read_bytes())
-    ran = desk.run(block_with("/etc/onixdesk/mail.conf"))
+    ran = desk.run(block_with(PAGE, "/etc/onixdesk/mail.conf"))
     text = room.path("etc/onixdesk/mail.conf").read_text()
     yield Outcome(f"{PAGE}: mails", (ran.status, "\nADDRESS=buying@example.org\n" in f"\n{text}"), (0, True))
     yield Outcome(f"{PAGE}: their timer", room.path("units").read_text(), "enable --now onixdesk-mail.timer\n")
@@ -89,7 +83,7 @@ def mails_are_sent(room: Room) -> Iterator[Outcome]:
 
 def an_unusable_storage(room: Room) -> Iterator[Outcome]:
     """The desk itself has its file open; then there is a database of another program."""
-    lines = block_with("namei -l $file")
+    lines = block_with(PAGE, "namei -l $file")
     with machine(room, AGREED) as desk:
         pid = room.path("pid").read_text().strip()
         found = desk.run(lines)

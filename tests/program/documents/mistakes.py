@@ -6,7 +6,7 @@ import hashlib
 import re
 from collections.abc import Iterator
 
-from tests.program.documents.examples import blocks, written
+from tests.program.documents.examples import block_with, blocks, written
 from tests.program.files.machines import Machine, feed, machine
 from tests.program.room import Room
 from tests.running import Outcome
@@ -21,12 +21,6 @@ AGREED = AGREEMENT.format("4012345000009", 1)
 GAPS = "gaps,north,first=1,next={},greatest={},held=0,missing=0"
 
 
-def block_with(text: str) -> list[str]:
-    """The one block that has this text."""
-    (found,) = (lines for lines in blocks(PAGE) if text in "\n".join(lines))
-    return found
-
-
 def mark(data: bytes) -> str:
     return hashlib.sha256(data).hexdigest()[:12]
 
@@ -36,7 +30,7 @@ def undone(
 ) -> Iterator[Outcome]:
     """Runs the block of the page with that text, in which files have their own marks, and compares prices."""
     yield Outcome(f"{text}: prices before", desk.prices(), {name: [amount] for name, amount in before.items()})
-    lines = "\n".join(block_with(text))
+    lines = "\n".join(block_with(PAGE, text))
     for shown, own in (marks or {}).items():
         lines = lines.replace(shown, own)
     ran = desk.run([lines])
@@ -162,12 +156,11 @@ def what_comes_then(desk: Machine) -> Iterator[Outcome]:
 def a_wrong_message(room: Room) -> Iterator[Outcome]:
     with machine(room, AGREED) as desk:
         before, wrong = with_a_wrong_message(desk)
-        marks = {"3f9a0c51d2b7": mark(wrong)}
-        block = block_with("/aWaive,north,2")
-        ran = desk.run(["\n".join(block).replace("3f9a0c51d2b7", mark(wrong))], said="no\n")
+        marks, text = {"3f9a0c51d2b7": mark(wrong)}, ",2,/,/^EndMessage,"
+        ran = desk.run(["\n".join(block_with(PAGE, text)).replace("3f9a0c51d2b7", mark(wrong))], said="no\n")
         found = ran.status, desk.take({})["wrong.xml"]
         yield Outcome("a wrong message: nobody said yes, and nothing is refused", found, (1, "applied"))
-        yield from undone(desk, "/aWaive,north,2", before, {"a": "10.000", "c": "7.000"}, marks)
+        yield from undone(desk, text, before, {"a": "10.000", "c": "7.000"}, marks)
         asked = [desk.run([f"desk-restore --yes {copy}"]) for copy in copies_in(desk)]
         found = [(ran.status, b"north next=4, --refuse " in ran.errors) for ran in asked]
         yield Outcome("a wrong message: copies from before, and a new one", found, [(1, True), (1, True), (0, False)])
@@ -177,9 +170,12 @@ def a_wrong_message(room: Room) -> Iterator[Outcome]:
 def a_wrong_file_of_parts(room: Room) -> Iterator[Outcome]:
     with machine(room, AGREED, WORDS="--parts 5") as desk:
         before, wrong = with_a_wrong_message(desk)
-        yield from undone(
-            desk, "waive north 6-10", before, {"a": "10.000", "c": "7.000"}, {"3f9a0c51d2b7": mark(wrong)}
+        page = (ROOT / PAGE).read_text(encoding="utf-8")
+        ((numbers, number, all_of_it, last),) = re.findall(
+            "write `(.*)` in place of `(.*)`, and `(.*)` in place of `(.*)`", page
         )
+        edits = {"3f9a0c51d2b7": mark(wrong), number: numbers, last: all_of_it}
+        yield from undone(desk, ",2,/,/^EndMessage,", before, {"a": "10.000", "c": "7.000"}, edits)
         yield Outcome("a wrong file of parts: the gaps", desk.ask("AskGaps,north"), [GAPS.format(16, 15)])
 
 
@@ -211,7 +207,7 @@ def a_wrong_percent(room: Room) -> Iterator[Outcome]:
         states = desk.take({"full.xml": full, "update.xml": update})
         yield Outcome("a wrong percent: its files", states, {"full.xml": "applied", "update.xml": "applied"})
         yield Outcome("a wrong percent: before", desk.prices("05"), {"a": ["12.440"], "b": ["9.580"], "c": ["0.960"]})
-        lines = "\n".join(block_with("s/^percent = "))
+        lines = "\n".join(block_with(PAGE, "s/^percent = "))
         lines = lines.replace("3f9a0c51d2b7", mark(full)).replace("08be117c40f3", mark(update))
         ran = desk.run([lines])
         yield Outcome("a wrong percent: it is mended", (ran.status, ran.errors), (0, b""))
@@ -235,7 +231,7 @@ def a_wholesaler_that_is_gone(room: Room) -> Iterator[Outcome]:
     references = ["R1", '"R,""2"""', '"A, B"']
     with machine(room, with_products(1, [f"{each},03,15,9781234567897" for each in references])) as desk:
         yield Outcome("a wholesaler that is gone: its offers", desk.prices(), {"a": ["20.000"] * 3})
-        ran = desk.run(block_with("split -l 19998"))
+        ran = desk.run(block_with(PAGE, "split -l 19998"))
         answer = b"applied,north,2,replaced=0,updated=0,deleted=3,unknown=0,ignored=0"
         found = ran.status, ran.output.splitlines()[-1]
         yield Outcome("a wholesaler that is gone: its records", found, (0, answer))
@@ -249,7 +245,7 @@ def very_many_records(room: Room) -> Iterator[Outcome]:
     (edit,) = re.findall("`(/978[0-9]+/s)` in place of `(.*?)`", (ROOT / PAGE).read_text(encoding="utf-8"))
     with machine(room, with_products(6, products)) as desk:
         yield Outcome("many records: before", desk.prices(), {"a": ["20.000"] * 3, "b": ["20.000"]})
-        ran = desk.run(["\n".join(block_with("split -l 19998")).replace(edit[1], edit[0])])
+        ran = desk.run(["\n".join(block_with(PAGE, "split -l 19998")).replace(edit[1], edit[0])])
         answer = b"applied,north,7,replaced=0,updated=0,deleted=3,unknown=0,ignored=0"
         yield Outcome("many records are deleted", (ran.status, ran.output.splitlines()[-1]), (0, answer))
         yield Outcome("many records: behind", desk.prices(), {"b": ["20.000"]})
@@ -258,9 +254,9 @@ def very_many_records(room: Room) -> Iterator[Outcome]:
 def a_desk_as_text(room: Room) -> Iterator[Outcome]:
     with machine(room, AGREED) as desk:
         desk.take({f"{number}.xml": feed(number, a=f"{number}.00") for number in (1, 2, 3, 4)})
-        ran = desk.run(block_with("| cmp - shop.csv"))
+        ran = desk.run(block_with(PAGE, "| cmp - shop.csv"))
         yield Outcome(f"{PAGE}: the desk as text", (ran.status, ran.errors), (0, b""))
-        shown = desk.run(block_with("/^Waive,north,4$/p")).output.decode().splitlines()
+        shown = desk.run(block_with(PAGE, "/^Waive,north,4$/p")).output.decode().splitlines()
         found = shown[0].split(",")[6], shown[-1].split(",")[0], len(shown)
         yield Outcome(f"{PAGE}: what is recorded at one number", found, ("4", "EndMessage", int(shown[-1][11:]) + 1))
         ran = desk.run(["desk-restore --text shop.csv friday"])

@@ -3,7 +3,7 @@
 import csv
 from collections.abc import Iterator
 
-from tests.program.documents.examples import blocks, written
+from tests.program.documents.examples import block_with, written
 from tests.program.documents.mistakes import AGREED
 from tests.program.files.machines import Machine, machine
 from tests.program.room import Room
@@ -28,12 +28,6 @@ def message(number: int, amount: str) -> str:
     return written([*lines, f"EndMessage,{len(lines)}"]).decode()
 
 
-def block_with(text: str) -> list[str]:
-    """The one block that has this text."""
-    (found,) = (lines for lines in blocks(PAGE) if text in "\n".join(lines))
-    return found
-
-
 def line_of(desk: Machine, name: str) -> dict[str, str]:
     """What the file says of the one article."""
     with open(desk.room.path(name), encoding="utf-8", newline="") as file:
@@ -45,7 +39,7 @@ def first_command(room: Room) -> Iterator[Outcome]:
     """Without a rule no line has a price."""
     with machine(room, AGREED + message(1, "8.00")) as desk:
         room.path("FOLDER").mkdir()
-        (command,) = block_with("/var/lib/onixdesk/shop.db FOLDER")
+        (command,) = block_with(PAGE, "/var/lib/onixdesk/shop.db FOLDER")
         yield Outcome(f"{PAGE}: {command}", desk.run([command]).status, 0)
         row = line_of(desk, "FOLDER/prices.csv")
         yield Outcome(f"{PAGE}: without a rule", (row["isbn"], row["price"]), (ISBN, ""))
@@ -53,9 +47,9 @@ def first_command(room: Room) -> Iterator[Outcome]:
 
 def set_up(room: Room) -> Iterator[Outcome]:
     with machine(room, AGREED + message(1, "8.00")) as desk:
-        ran = desk.run(["set -e", *block_with("printf '[[rule]]")])
+        ran = desk.run(["set -e", *block_with(PAGE, "printf '[[rule]]")])
         yield Outcome(f"{PAGE}: the rule", (ran.status, ran.errors), (0, b""))
-        ran = desk.run(["set -e", *block_with("systemctl enable --now onixdesk-prices.timer")])
+        ran = desk.run(["set -e", *block_with(PAGE, "systemctl enable --now onixdesk-prices.timer")])
         yield Outcome(f"{PAGE}: each night", (ran.status, ran.errors), (0, b""))
         shown = ran.output.decode().splitlines()[:2]
         yield Outcome(f"{PAGE}: what head shows", shown, room.path(NIGHT).read_text().splitlines())
@@ -65,7 +59,7 @@ def set_up(room: Room) -> Iterator[Outcome]:
         yield Outcome(f"{PAGE}: its line", found, wanted)
         desk.ask(*message(2, "9.00").splitlines())
         desk.run(["systemctl start onixdesk-prices"])
-        changed = desk.run(block_with("prices.before.csv")).output.decode().splitlines()
+        changed = desk.run(block_with(PAGE, "prices.before.csv")).output.decode().splitlines()
         found = [line[:1] for line in changed if "8.00" in line or "9.00" in line]
         yield Outcome(f"{PAGE}: what changed", found, ["<", ">"])
 
@@ -73,9 +67,9 @@ def set_up(room: Room) -> Iterator[Outcome]:
 def form_for_a_till(room: Room) -> Iterator[Outcome]:
     """The block is put where the page says."""
     with machine(room, AGREED + message(1, "8.00")) as desk:
-        desk.run(["set -e", *block_with("printf '[[rule]]")])
+        desk.run(["set -e", *block_with(PAGE, "printf '[[rule]]")])
         path = room.path("etc/onixdesk/page/desk.json")
-        form = "\n".join(block_with('"price_file"'))
+        form = "\n".join(block_with(PAGE, '"price_file"'))
         path.write_text(f"{path.read_text().rstrip().removesuffix('}').rstrip()},\n{form}\n}}\n", encoding="utf-8")
         ran = desk.run(["set -e", "systemctl start onixdesk-prices"])
         yield Outcome(f"{PAGE}: the form", (ran.status, ran.errors), (0, b""))

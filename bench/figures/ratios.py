@@ -114,6 +114,9 @@ def messages_in_memory(bench: Bench) -> Iterator[Figure]:
     records = tools.records(bench.folder)
     alone = Work(Run([records, given]), Run([records, NOTHING]))
     yield to(f"{what}, to `csv` alone reading them", *least_of([work, alone]))
+    wrong = bench.text("wrong", [given.read_bytes(), "AskGaps\n"])
+    refused = work._replace(run=bench.batch(wrong)._replace(status=1))
+    yield to(f"{what}, with one malformed request behind them, to without it", *least_of([refused, work]))
 
 
 def catalogue(records: int, *questions: str) -> Iterator[str]:

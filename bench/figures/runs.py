@@ -31,10 +31,11 @@ class BenchmarkFault(Exception):
 
 
 class Run(NamedTuple):
-    """The words of a program, and its input."""
+    """The words of a program, its input, and the status with which it has to end."""
 
     words: Sequence[Word]
     given: Path = NOTHING
+    status: int = 0
 
 
 class Work(NamedTuple):
@@ -54,12 +55,12 @@ class Taken(NamedTuple):
 
 
 def taken(run: Run) -> Taken:
-    """Runs a program whose output nobody reads. BenchmarkFault where it fails."""
+    """Runs a program whose output nobody reads. BenchmarkFault where it ends otherwise than it has to."""
     with open(run.given, "rb") as given:
         words: list[Word] = [sys.executable, "-I", "-S", "-c", MEASURING, *run.words]
         done = subprocess.run(words, stdin=given, capture_output=True, text=True, errors="replace")
     status, microseconds, kilobytes = map(int, done.stdout.split() or [str(done.returncode), "0", "0"])
-    if status or not kilobytes:
+    if status != run.status or not kilobytes:
         raise BenchmarkFault(f"status {status} of {' '.join(map(str, run.words))}: {done.stderr[-300:]}")
     return Taken(microseconds, kilobytes * 1_024)
 

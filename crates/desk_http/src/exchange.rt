@@ -1,8 +1,25 @@
-//! What is asked for in an exchange, its reply, and why there is none.
+//! What is asked for in an exchange, its reply, and why there is none; and who observes that.
 
 use http_requests::refusal::Refusal;
+use series_rules::answers::Answer;
 use series_rules::requests::Request;
 use thiserror::Error;
+
+/// Who observes what a desk is asked, and answers. It decides nothing, and no contract speaks of it.
+pub trait Observer {
+    /// A request was answered so.
+    fn observe_answer(&mut self, request: &Request, answer: &Answer);
+
+    /// The question at this target is a bad query.
+    fn observe_query(&mut self, target: &str);
+}
+
+/// Nobody.
+impl Observer for () {
+    fn observe_answer(&mut self, _request: &Request, _answer: &Answer) {}
+
+    fn observe_query(&mut self, _target: &str) {}
+}
 
 /// What an input asks for.
 #[derive(Drop)]

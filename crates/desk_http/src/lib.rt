@@ -42,6 +42,6 @@ mod to_json;
 mod values;
 
 pub use answer_reply::reply_of;
-pub use exchange::HttpFault;
+pub use exchange::{HttpFault, Observer};
 pub use one_exchange::{serve_one, serve_routed};
 pub use routes::Routes;

@@ -1,11 +1,13 @@
 //! The lines that say why requests are malformed.
 
 use crate::causes::push_cause;
-use crate::judging::{bad_row_of_delivery, bad_row_of_piece};
 use crate::lines::RecordLines;
-use csv_records::reading::{RecordFault, RecordReader, read_records};
+use crate::questions::push_question;
+use csv_records::buffer::RecordBuffer;
 use csv_records::records::Records;
-use desk_texts::pieces::read_pieces;
+use onix_message::message::{MessageFault, read_message};
+use series_rules::answers::{Answer, DeliveryAnswer};
+use series_rules::requests::Request;
 use std::alloc::{AllocError, Global};
 use std::io::Write;
 use watched_output::shown_texts::push_shown;
@@ -32,119 +34,220 @@ impl Room {
         self.malformed
     }
 
-    /// Counts a malformed request, and says whether there is room for its line.
-    pub(crate) fn take(&mut self) -> bool {
+    // Counts a malformed request, and says whether there is room for its line.
+    fn take(&mut self) -> bool {
         let has_room = self.malformed < u64::from(self.most);
         self.malformed = self.malformed.saturating_add(1);
         has_room
     }
 }
 
-// Adds the line of a piece that stops being a request at this row of it, which is that line of the
-// text.
+// What is said of a piece that is no request, which stops being one at a row, and how many records
+// it has.
+#[derive(Drop)]
+struct Kept {
+    cause: String,
+    row: u32,
+    count: usize,
+}
+
+// Where the records of a text come from: the name of its file, or none, and their lines; or a
+// message that was posted, of which a record has no line.
+#[derive(Drop)]
+struct Source<'a> {
+    name: &'a str,
+    lines: Option<RecordLines<'a>>,
+}
+
+// Adds the line of the next piece of a source, which has so many records.
 fn push_line(
     alloc: Global,
     text: &mut String,
-    name: &str,
-    line: u64,
-    piece: &Records<'_>,
-    row: u32,
+    source: &mut Source<'_>,
+    kept: &Kept,
 ) -> Result<(), AllocError> {
-    text.push_str("onixdesk: ")?;
-    if !name.is_empty() {
-        push_shown(text, name, SHOWN)?;
-        text.push_str(": ")?;
+    let mut line = String::new(alloc);
+    line.push_str("onixdesk: ")?;
+    if !source.name.is_empty() {
+        push_shown(&mut line, source.name, SHOWN)?;
+        line.push_str(": ")?;
     }
-    write!(text, "line {line}:")?;
-    push_cause(alloc, text, piece, row)?;
-    text.push_str("\n")
+    match &mut source.lines {
+        Some(lines) => write!(line, "line {}:", lines.line_at(kept.row, kept.count))?,
+        None => write!(line, "row {}:", kept.row)?,
+    }
+    line.push_str(kept.cause.as_str())?;
+    line.push_str("\n")?;
+    text.push_str(line.as_str())
 }
 
-// Writes the line of a piece, where there is room. A line that cannot be written is lost.
-fn tell<E: Write>(
-    alloc: Global,
-    room: &mut Room,
-    name: &str,
-    line: u64,
-    piece: &Records<'_>,
-    row: u32,
-    errors: &mut E,
-) -> Result<(), AllocError> {
-    if !room.take() {
-        return Ok(());
+// Adds the line of a bad query.
+fn push_query(alloc: Global, text: &mut String, target: &str) -> Result<(), AllocError> {
+    let mut line = String::new(alloc);
+    line.push_str("onixdesk: bad-query: ")?;
+    if push_question(alloc, &mut line, target)? {
+        line.push_str("\n")?;
+        text.push_str(line.as_str())?;
     }
-    let mut text = String::new(alloc);
-    push_line(alloc, &mut text, name, line, piece, row)?;
-    let _ = errors.write_all(text.as_bytes());
     Ok(())
 }
 
-// The line on which the record at a row begins, counted from 1, of so many records, or that of the
-// last record. All of their lines are taken.
-fn line_at(lines: &mut RecordLines<'_>, count: usize, row: u32) -> u64 {
-    let mut found = 1u64;
-    for index in 0..count {
-        let line = lines.next_line();
-        if index < row as usize {
-            found = line;
-        }
-    }
-    found
+// What is said of the piece of these records.
+fn kept_of(alloc: Global, piece: &RecordBuffer, row: u32) -> Result<Kept, AllocError> {
+    let mut cause = String::new(alloc);
+    push_cause(alloc, &mut cause, &piece.as_records(), row)?;
+    let count = piece.len();
+    Ok(Kept { cause, row, count })
 }
 
-/// Writes a line for each piece of a batch that is no request, as far as there is room, and gives
-/// how many there are. NAME is that of the file, or empty.
-pub fn explain_batch<E: Write>(
+// The row at which records stop being a message; none where they are one.
+fn row_of_message(alloc: Global, records: &Records<'_>) -> Result<Option<u32>, AllocError> {
+    match read_message(alloc, records) {
+        Ok(_) => Ok(None),
+        Err(MessageFault::Malformed { row }) => Ok(Some(row)),
+        Err(MessageFault::Memory) => Err(AllocError),
+    }
+}
+
+/// The lines on malformed requests, each made while its records are in hand, as far as there is room
+/// and memory.
+///
+/// It observes a batch: its pieces that are no requests as they are read, and then its answers, in
+/// the order of its text. Or it observes an exchange over HTTP.
+#[derive(Drop)]
+pub struct Reasons<'a> {
     alloc: Global,
-    room: &mut Room,
-    name: &str,
-    bytes: &[u8],
-    errors: &mut E,
-) -> Result<u64, RecordFault> {
-    let mut reader = RecordReader::new(alloc, bytes)?;
-    let mut lines = RecordLines::new(bytes);
-    let mut count = 0u64;
-    let Ok(pieces) = read_pieces(alloc, &mut reader) else {
-        return Err(RecordFault::Memory);
-    };
-    for piece in pieces.as_slice() {
-        let records = piece.as_records();
-        let Ok(row) = bad_row_of_piece(alloc, &records) else {
-            return Err(RecordFault::Memory);
+    source: Source<'a>,
+    kept: Vec<Kept>,
+    // How many of those that are kept have their lines.
+    told: usize,
+    room: Room,
+    text: String,
+}
+
+impl<'a> Reasons<'a> {
+    fn new(alloc: Global, source: Source<'a>, room: Room) -> Reasons<'a> {
+        Reasons {
+            alloc,
+            source,
+            kept: Vec::new(alloc),
+            told: 0,
+            room,
+            text: String::new(alloc),
+        }
+    }
+
+    /// Those of the requests of a text. NAME is that of its file, or empty.
+    pub fn of_text(alloc: Global, name: &'a str, bytes: &'a [u8], room: Room) -> Reasons<'a> {
+        let lines = Some(RecordLines::new(bytes));
+        Reasons::new(alloc, Source { name, lines }, room)
+    }
+
+    /// Those of an exchange.
+    pub fn of_exchange(alloc: Global, room: Room) -> Reasons<'a> {
+        let source = Source {
+            name: "",
+            lines: None,
         };
-        let line = line_at(&mut lines, records.len(), row.unwrap_or(1));
-        if let Some(row) = row {
-            count = count.saturating_add(1);
-            let Ok(()) = tell(alloc, room, name, line, &records, row, errors) else {
-                return Err(RecordFault::Memory);
-            };
+        Reasons::new(alloc, source, room)
+    }
+
+    // Keeps what is said of a piece that is no request until that is answered.
+    fn keep(&mut self, piece: &RecordBuffer, row: u32) -> Result<(), AllocError> {
+        self.kept.push(kept_of(self.alloc, piece, row)?)?;
+        Ok(())
+    }
+
+    // Passes over so many records, of which nothing is said.
+    fn pass(&mut self, count: usize) {
+        if let Some(lines) = &mut self.source.lines {
+            lines.pass(count);
         }
     }
-    Ok(count)
+
+    // Adds the line of the next piece that is no request.
+    fn tell_piece(&mut self) {
+        let has_room = self.room.take();
+        if let Some(kept) = self.kept.get(self.told) {
+            if has_room {
+                let _ = push_line(self.alloc, &mut self.text, &mut self.source, kept);
+            }
+        }
+        self.told = self.told.saturating_add(1);
+    }
+
+    // Adds the line of records that stop being a message at this row.
+    fn tell_message(&mut self, records: &RecordBuffer, row: u32) {
+        if self.room.take() {
+            if let Ok(kept) = kept_of(self.alloc, records, row) {
+                let _ = push_line(self.alloc, &mut self.text, &mut self.source, &kept);
+            }
+        }
+    }
+
+    // Adds the line of a request that is malformed. The row is that at which a delivery is no message.
+    fn tell(&mut self, request: &Request, row: Option<u32>) {
+        match request {
+            Request::Malformed { .. } => self.tell_piece(),
+            Request::Deliver(records) => match row {
+                Some(row) => self.tell_message(records, row),
+                None => self.pass(records.len()),
+            },
+            _ => self.pass(1),
+        }
+    }
+
+    /// Adds the lines of requests whose answers are not there: which deliveries are of no message is
+    /// found here.
+    pub fn tell_all(&mut self, requests: &[Request]) -> Result<(), AllocError> {
+        for request in requests {
+            let row = match request {
+                Request::Deliver(records) => row_of_message(self.alloc, &records.as_records())?,
+                _ => None,
+            };
+            self.tell(request, row);
+        }
+        Ok(())
+    }
+
+    /// Writes the lines, and gives the room that is left. Lines that cannot be written are lost.
+    pub fn write<E: Write>(self, errors: &mut E) -> Room {
+        let _ = errors.write_all(self.text.as_bytes());
+        self.room
+    }
 }
 
-/// Writes a line where the records of a file are not one message, as far as there is room, and says
-/// whether they are none. NAME is that of the file, or empty.
-pub fn explain_delivery<E: Write>(
-    alloc: Global,
-    room: &mut Room,
-    name: &str,
-    bytes: &[u8],
-    errors: &mut E,
-) -> Result<bool, RecordFault> {
-    let buffer = read_records(alloc, bytes)?;
-    let records = buffer.as_records();
-    let Ok(row) = bad_row_of_delivery(alloc, &records) else {
-        return Err(RecordFault::Memory);
-    };
-    let Some(row) = row else {
-        return Ok(false);
-    };
-    let mut lines = RecordLines::new(bytes);
-    let line = line_at(&mut lines, records.len(), row);
-    match tell(alloc, room, name, line, &records, row, errors) {
-        Ok(()) => Ok(true),
-        Err(_) => Err(RecordFault::Memory),
+// The row at which a delivery stopped being a message, where that was its answer.
+fn row_of(answer: &Answer) -> Option<u32> {
+    match answer {
+        Answer::Delivery(DeliveryAnswer::Malformed { row }) => Some(*row),
+        _ => None,
+    }
+}
+
+impl<'a> desk_texts::observing::Observer for Reasons<'a> {
+    fn observe_piece(&mut self, piece: &RecordBuffer, row: u32) {
+        let has_room = self.kept.len() < self.room.most as usize;
+        if has_room && self.keep(piece, row).is_err() {
+            // Those that follow would get the lines of others.
+            self.room.most = 0;
+        }
+    }
+
+    fn observe_answer(&mut self, request: &Request, answer: &Answer) {
+        self.tell(request, row_of(answer));
+    }
+}
+
+impl<'a> desk_http::Observer for Reasons<'a> {
+    fn observe_answer(&mut self, request: &Request, answer: &Answer) {
+        self.tell(request, row_of(answer));
+    }
+
+    fn observe_query(&mut self, target: &str) {
+        if self.room.take() {
+            let _ = push_query(self.alloc, &mut self.text, target);
+        }
     }
 }
 

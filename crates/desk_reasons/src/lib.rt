@@ -1,9 +1,8 @@
 //! Why a text that a desk is given has no request, in words.
 //!
-//! `explaining` goes over the pieces of a batch, or the one message of a file, and writes a line
-//! for each that is malformed; `judging` finds its row by the readers that the desk has, `rows`
-//! has the fields of each record by their names, `fields` what each has to be, `isbn_of_ten` an
-//! ISBN of ten digits as one of thirteen, `causes` the words, and `lines` the line of the text on
+//! `explaining` makes a line for each request that is malformed, while its records are in hand:
+//! `rows` has the fields of each record by their names, `fields` what each has to be, `isbn_of_ten`
+//! an ISBN of ten digits as one of thirteen, `causes` the words, and `lines` the line of the text on
 //! which each record begins. `questions` does the same for a question over HTTP.
 //!
 //! What is written decides no answer. It is proved to be safe and to end, and is tested in its
@@ -14,7 +13,6 @@ mod causes;
 pub mod explaining;
 mod fields;
 mod isbn_of_ten;
-mod judging;
 mod lines;
-pub mod questions;
+mod questions;
 mod rows;

@@ -59,6 +59,8 @@ pub(crate) struct RecordLines<'a> {
     text: &'a [u8],
     line: u64,
     at: usize,
+    // How many records are passed over before the next.
+    passed: usize,
 }
 
 impl<'a> RecordLines<'a> {
@@ -68,11 +70,30 @@ impl<'a> RecordLines<'a> {
             text,
             line: 1,
             at: 0,
+            passed: 0,
         }
     }
 
-    /// The line of the next record, or the last line where there is none.
-    pub(crate) fn next_line(&mut self) -> u64 {
+    /// Passes over so many records.
+    pub(crate) fn pass(&mut self, count: usize) {
+        self.passed = self.passed.saturating_add(count);
+    }
+
+    /// The line of the record at this row of the next records, counted from 1, of which there are so
+    /// many, or that of the last of them. They are passed over then.
+    pub(crate) fn line_at(&mut self, row: u32, count: usize) -> u64 {
+        let row = (row as usize).clamp(1, count.max(1));
+        let before = self.passed.saturating_add(row);
+        let mut line = 1u64;
+        for _ in 0..before {
+            line = self.next_line();
+        }
+        self.passed = count.saturating_sub(row);
+        line
+    }
+
+    // The line of the next record, or the last line where there is none.
+    fn next_line(&mut self) -> u64 {
         let rest = self.text.get(self.at..).unwrap_or(&[]);
         let mut place = Place::Between;
         let mut begun = self.line;

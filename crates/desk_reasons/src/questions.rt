@@ -1,18 +1,16 @@
 //! Why a question over HTTP is a bad query, in words.
 
 use crate::causes::push_broken;
-use crate::explaining::Room;
 use crate::fields::{Field, Kind, needed, optional, takes};
 use form_urlencoded::parse;
 use onix_terms::items::Items;
 use std::alloc::{AllocError, Global};
 use std::borrow::CowStr;
-use std::io::Write;
-use std::str::from_utf8;
 
-// The question of a path, as its article and what is asked of it; none where it is another path.
-fn question_in(path: &str) -> Option<(&str, &str)> {
-    path.strip_prefix("/articles/")?.split_once('/')
+// The question of a path, as its article and what is asked of it.
+fn question_in(path: &str) -> (&str, &str) {
+    let article = path.strip_prefix("/articles/").unwrap_or(path);
+    article.split_once('/').unwrap_or((article, ""))
 }
 
 // The keys of a question, in the order in which the desk reads them. Those that may be missing are
@@ -89,25 +87,21 @@ fn push_key(
     push_wrong(text, key, count, found)
 }
 
-// Adds what is wrong first with a question, and says whether something is.
-fn push_question(
+/// Adds what is wrong first with the question at a target, whose query is bad, and says whether
+/// something is.
+pub(crate) fn push_question(
     alloc: Global,
     text: &mut String,
-    path: &str,
-    query: &str,
+    target: &str,
 ) -> Result<bool, AllocError> {
-    let Some((article, question)) = question_in(path) else {
-        return Ok(false);
-    };
-    let keys = keys_of(alloc, question)?;
-    if keys.is_empty() {
-        return Ok(false);
-    }
+    let (path, query) = target.split_once('?').unwrap_or((target, ""));
+    let (article, question) = question_in(path);
     let isbn = needed("the article", Kind::Isbn);
     if !takes(isbn, article) {
         push_broken(text, isbn, article)?;
         return Ok(true);
     }
+    let keys = keys_of(alloc, question)?;
     let pairs = pairs_of(alloc, query)?;
     for key in keys.as_slice() {
         if push_key(text, *key, pairs.as_slice())? {
@@ -115,35 +109,4 @@ fn push_question(
         }
     }
     Ok(false)
-}
-
-// The path and the query that the first bytes of a request ask for by GET; none where they ask
-// otherwise.
-fn asked_in(request: &[u8]) -> Option<(&str, &str)> {
-    let text = from_utf8(request).ok()?;
-    let (target, _) = text.strip_prefix("GET ")?.split_once(' ')?;
-    match target.split_once('?') {
-        Some(parts) => Some(parts),
-        None => Some((target, "")),
-    }
-}
-
-/// Writes a line where a question over HTTP, of which these are the first bytes, is a bad query, as
-/// far as there is room: which of its keys is wrong, and why.
-pub fn explain_question<E: Write>(
-    alloc: Global,
-    room: &mut Room,
-    request: &[u8],
-    errors: &mut E,
-) -> Result<(), AllocError> {
-    let Some((path, query)) = asked_in(request) else {
-        return Ok(());
-    };
-    let mut text = String::new(alloc);
-    text.push_str("onixdesk: bad-query: ")?;
-    if push_question(alloc, &mut text, path, query)? && room.take() {
-        text.push_str("\n")?;
-        let _ = errors.write_all(text.as_bytes());
-    }
-    Ok(())
 }

@@ -45,7 +45,7 @@ gaps,north,first=1,next=3,greatest=2,held=0,missing=0
 // The answers are these, one after the other.
 fn expect_answers<D: Desk>(alloc: Global, stop: &impl Abort, desk: &mut D) {
     let mut reader = made(stop, RecordReader::new(alloc, REQUESTS.as_bytes()));
-    let requests = made(stop, read_requests(alloc, &mut reader));
+    let requests = made(stop, read_requests(alloc, &mut reader, &mut ()));
     drop(reader);
     let precedence = Precedence::none(alloc);
     let mut text = String::new(alloc);

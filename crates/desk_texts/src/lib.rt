@@ -2,7 +2,7 @@
 //!
 //! `request_rows` reads the requests of a text, which `pieces` cuts; `answer_text` writes the
 //! answer to one, with `catalogue_text`, `gap_text` and `price_text`, whose records `text_rows`
-//! fills.
+//! fills. `observing` has who observes both.
 //!
 //! The definitions are in `specs/`: `Pieces` cuts the records of a text, `RequestRows` says which
 //! request each piece is, and `Requests` has all requests of a text; `AnswerText` has the text of
@@ -13,6 +13,7 @@
 pub mod answer_text;
 mod catalogue_text;
 mod gap_text;
+pub mod observing;
 pub mod pieces;
 mod price_text;
 pub mod request_rows;

@@ -7,6 +7,7 @@ ghost use Rattle.onix_records.specs.Gives.{Gives};
 ghost use Rattle.desk_texts.specs.RequestRows.{agreement_of, calendar_asked, prices_asked, prices_on, question_forms, request_by, request_forms, request_of, row_request, series_of, waiver_of};
 ghost use Rattle.desk_texts.specs.Records.{begins_with};
 
+use crate::observing::Observer;
 use crate::pieces::read_pieces;
 use csv_records::buffer::RecordBuffer;
 use csv_records::reading::{RecordFault, RecordReader};
@@ -200,8 +201,12 @@ fn is_message(from: &Record<'_>) -> bool
 }
 
 /// Reads one piece of a batch. A delivery keeps the records of its piece, and these are not looked
-/// at; a piece that is no request gives the row at which it stops being one.
-pub fn read_request(alloc: Global, piece: RecordBuffer) -> Result<Request, AllocError>
+/// at; a piece that is no request is observed, and gives the row at which it stops being one.
+pub fn read_request<O: Observer>(
+    alloc: Global,
+    piece: RecordBuffer,
+    observer: &mut O,
+) -> Result<Request, AllocError>
     ensures { IfOk result (λ r. r ≡ request_of piece) }
 {
     if piece.is_empty() {
@@ -216,37 +221,46 @@ pub fn read_request(alloc: Global, piece: RecordBuffer) -> Result<Request, Alloc
             if piece.len() == 1 {
                 Ok(request)
             } else {
+                observer.observe_piece(&piece, 2);
                 Ok(Request::Malformed { row: 2 })
             }
         }
-        Err(RowFault::Wrong) => Ok(Request::Malformed { row: 1 }),
+        Err(RowFault::Wrong) => {
+            observer.observe_piece(&piece, 1);
+            Ok(Request::Malformed { row: 1 })
+        }
         Err(RowFault::Memory) => Err(AllocError),
     }
 }
 
-/// The requests of the records that a reader has left, in order. With `Ok` nothing is left to read;
-/// where memory runs out, how much is left is not said.
-pub fn read_requests(
+/// The requests of the records that a reader has left, in order, as `read_request`. With `Ok`
+/// nothing is left to read; where memory runs out, how much is left is not said.
+pub fn read_requests<O: Observer>(
     alloc: Global,
     reader: &mut RecordReader<'_>,
+    observer: &mut O,
 ) -> Result<Items<Request>, AllocError>
     ensures requests { IfOk result (λ requests. requests ≡ map request_of (pieces reader.old)) }
     ensures left { OnOk result (reader.new ≡ []) }
 {
     let mut requests = Items::new(alloc);
     for piece in read_pieces(alloc, reader)?.into_vec() {
-        requests.push(read_request(alloc, piece)?)?;
+        requests.push(read_request(alloc, piece, observer)?)?;
     }
     Ok(requests)
 }
 
-/// The requests of a text, or why it has no records. The records of each piece are dropped as it is
-/// read, but for a delivery's.
-pub fn requests_in(alloc: Global, bytes: &[u8]) -> Result<Items<Request>, RecordFault>
+/// The requests of a text, as `read_request`, or why it has no records. The records of each piece
+/// are dropped as it is read, but for a delivery's.
+pub fn requests_in<O: Observer>(
+    alloc: Global,
+    bytes: &[u8],
+    observer: &mut O,
+) -> Result<Items<Request>, RecordFault>
     ensures { TextFits bytes.now result }
 {
     let mut reader = RecordReader::new(alloc, bytes)?;
-    match read_requests(alloc, &mut reader) {
+    match read_requests(alloc, &mut reader, observer) {
         Ok(requests) => Ok(requests),
         Err(_) => Err(RecordFault::Memory),
     }

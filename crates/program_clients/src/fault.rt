@@ -87,14 +87,17 @@ fn cure_of(why: &str) -> &'static str {
     }
 }
 
-/// Writes a second line behind that of a file that cannot be read: what the system says of it, and
-/// what to do. As with `report`, it may be lost.
-pub fn report_cause<E: Write>(name: &str, why: &str, errors: &mut E) {
-    let cure = cure_of(why);
-    let _ = write!(errors, "onixdesk: {name}: {why}{cure}\n");
+/// Writes the line of a file that cannot be read, and where the system says why, a second with that
+/// and what to do. As with `report`, they may be lost.
+pub fn report_file<E: Write>(name: &str, why: &str, errors: &mut E) {
+    let _ = write!(errors, "onixdesk: file: {name}\n");
+    if !why.is_empty() {
+        let cure = cure_of(why);
+        let _ = write!(errors, "onixdesk: {name}: {why}{cure}\n");
+    }
 }
 
-/// Writes the line of a file that cannot be read. As with `report`, it may be lost.
-pub fn report_file<E: Write>(name: &str, errors: &mut E) {
-    let _ = write!(errors, "onixdesk: file: {name}\n");
+/// What is said of a name whose file was opened and cannot be read, by whether it is a folder's.
+pub fn why_unread(is_folder: bool) -> &'static str {
+    if is_folder { "Is a directory" } else { "" }
 }

@@ -1,5 +1,5 @@
 -- One more file of those that were delivered, and the file at which a fault ended it.
-use Rattle.std.proofs.Common.{◌≡◌, ◌+◌, ◌<◌, ℕ, Bool, true, false, Option, List, [], ◌∷◌, ◌++◌, Err, refl, sym, ap, subst, ◌∙◌, arith, length, map, cond, nat_eq, not, add-zero, append-nil, inl, inr}
+use Rattle.std.proofs.Common.{◌≡◌, ◌+◌, ◌<◌, ℕ, Bool, true, false, Option, List, [], ◌∷◌, ◌++◌, Err, refl, sym, ap, subst, ◌∙◌, arith, length, map, cond, nat_eq, not, add-zero, append-nil}
 use Rattle.std.specs.Prelude.{◌||◌, All, nat_lt, if◌then◌else◌}
 use Rattle.std.specs.Io.KnownBytes.{Appends}
 use Rattle.std.proofs.KnownBytes.{Appends-trans}
@@ -13,7 +13,7 @@ use Rattle.series_rules.specs.Steps.{Asked, Step}
 use Rattle.series_rules.specs.Views.{DeskKind, View}
 use Rattle.desk_batch.proofs.TalkLemmas.{talk_then}
 use Rattle.desk_batch.specs.Batch.{RequestGives}
-use Rattle.desk_texts.specs.Requests.{HasRecords}
+use Rattle.desk_texts.specs.Requests.{HasRecords, RecordsFit}
 use Rattle.desk_batch.specs.Talks.{Stop, Talk, Talks, cut, ended, failed, unsaid}
 use Rattle.desk_batch.specs.declared.batch.RequestFault.{RequestFault}
 use Rattle.desk_batch.specs.declared.batch.RequestFault.TheVariants as request_fault
@@ -108,7 +108,7 @@ module _ {D : Type 0} {k : DeskKind} (seen : D → View k) (rules : List Rule) (
     -- a fault ended it at the next file
     pub stopped_at : (file : List ℕ) (f : DeliveryFault) → AreTexts named told names (texts ++ file ∷ []) → Delivers (Asked seen rules mid new) (Appends before holds) file (Err f)
         → DeliverEnds (Asked seen rules old new) (Appends was holds) named told names status
-    stopped_at file fault.Unreadable more is = unasked is.0 is.1
+    stopped_at file (fault.Unreadable why) more is = unasked is.0 is.1
     stopped_at file (fault.Records f) more is = unasked is.1 is.2
     stopped_at file (fault.Request f) more is =
         let ends = deliveries_end (Asked seen rules old new) (Appends was holds) (map delivery_of (texts ++ file ∷ [])) (nat_lt (length (texts ++ file ∷ [])) (length names)) status
@@ -124,11 +124,12 @@ module _ {D : Type 0} {k : DeskKind} (seen : D → View k) (rules : List Rule) (
 
 -- a file that could not be opened was not asked
 pub unopened_delivers : (asked : List Step → Type 0) (written : List ℕ → Type 0) (text : List ℕ) (f : DeliveryFault) → IsUnasked f → asked [] → written [] → Delivers asked written text (Err f)
-unopened_delivers asked written text f (inl is) none nothing = subst (λ e. Delivers asked written text (Err e)) (sym is) (none, nothing)
-unopened_delivers asked written text f (inr is) none nothing = subst (λ e. Delivers asked written text (Err e)) (sym is) (tt, none, nothing)
+unopened_delivers asked written text (fault.Unreadable why) is none nothing = (none, nothing)
+unopened_delivers asked written text (fault.Records f) is none nothing = (subst (RecordsFit text) (sym is) tt, none, nothing)
+unopened_delivers asked written text (fault.Request f) is none nothing = absurd is
 
 -- nor one that was not read
 pub unread_delivers : (asked : List Step → Type 0) (written : List ℕ → Type 0) (text : List ℕ) (f : DeliveryFault) → ReadFits text (Err f) → asked [] → written [] → Delivers asked written text (Err f)
-unread_delivers asked written text fault.Unreadable fits none nothing = (none, nothing)
+unread_delivers asked written text (fault.Unreadable why) fits none nothing = (none, nothing)
 unread_delivers asked written text (fault.Records f) fits none nothing = (fits, none, nothing)
 unread_delivers asked written text (fault.Request f) fits none nothing = absurd fits

@@ -1,5 +1,5 @@
 -- The deliveries of files.
-use Rattle.std.specs.Prelude.{◌≡◌, ◌≢◌, ◌+◌, ◌⊎◌, ◌∷◌, ℕ, Bool, List, [], Option, Result, Ok, Err, ⊤, Vec, codes}
+use Rattle.std.specs.Prelude.{◌≡◌, ◌≢◌, ◌+◌, ◌∷◌, ℕ, Bool, List, [], Option, Result, Ok, Err, ⊤, Vec, codes}
 use Rattle.std.specs.declared.alloc.Global.{Global}
 use Rattle.csv_records.specs.RecordTexts.{limit, records_of}
 use Rattle.csv_records.specs.Streams.{IsTold, TakesAtMost}
@@ -22,7 +22,7 @@ delivery_of text = Deliver (records_of text)
 abbrev pub ReadFits : List ℕ → Result Request DeliveryFault → Type 0
 ReadFits text (Ok r) = HasRecords text × (r ≡ delivery_of text)
 ReadFits text (Err (fault.Records f)) = RecordsFit text f
-ReadFits text (Err fault.Unreadable) = ⊤
+ReadFits text (Err (fault.Unreadable why)) = ⊤
 ReadFits text (Err (fault.Request f)) = ⊥
 
 -- how the reading of a text that is told so can end: with its bytes, or with a fault of the same
@@ -32,7 +32,9 @@ IsRead text (Err f) = ReadFits text (Err f)
 
 -- a file could not be opened: that, or out of memory
 abbrev pub IsUnasked : DeliveryFault → Type 0
-IsUnasked f = (f ≡ fault.Unreadable) ⊎ (f ≡ fault.Records record_fault.Memory)
+IsUnasked (fault.Unreadable why) = ⊤
+IsUnasked (fault.Records f) = f ≡ record_fault.Memory
+IsUnasked (fault.Request f) = ⊥
 
 -- how the delivery of a text can end: there was a talk of it; or nothing was asked and nothing
 -- written, since it has no records or cannot be read. Asked, written: as of a talk
@@ -43,7 +45,7 @@ Delivers asked written text (Ok b) =
 Delivers asked written text (Err (fault.Request f)) =
     HasRecords text × Talks asked written (delivery_of text ∷ []) (RequestGives (Err f))
 Delivers asked written text (Err (fault.Records f)) = RecordsFit text f × asked [] × written []
-Delivers asked written text (Err fault.Unreadable) = asked [] × written []
+Delivers asked written text (Err (fault.Unreadable why)) = asked [] × written []
 
 -- a text is that of the file of a name: what the name holds; or of `-`, which stands for the input,
 -- what that tells of its bytes, of which no more than a batch may have are taken. Told, left: what

@@ -14,6 +14,7 @@ use crate::malformed::{tell_refusals, tell_untold};
 use crate::streams::{Errors, Streams};
 use crate::unread::report_input;
 use desk_batch::{BatchFault, read_text, run_text};
+use desk_reasons::explaining::Reasons;
 use price_rules::precedence::Precedence;
 use series_rules::desk::Desk;
 use std::alloc::Global;
@@ -31,8 +32,9 @@ fn answer_text<D: Desk, W: Write, E: Write>(
     ensures { RunsBatch (Asked D.seen precedence.now desk.old desk.new)
         (Appends (W.contents writer.old) (W.contents writer.new)) text.now result }
 {
-    let outcome = run_text(alloc, desk, precedence, text, writer);
-    tell_refusals(alloc, text, &outcome, errors);
+    let mut reasons = Reasons::of_text(alloc, "", text, errors.room);
+    let outcome = run_text(alloc, desk, precedence, text, writer, &mut reasons);
+    tell_refusals(reasons, text, &outcome, errors);
     outcome
 }
 

@@ -2,12 +2,13 @@
 
 ghost use Rattle.std.specs.Prelude.{◌≡◌, ◌≤◌};
 
-use crate::malformed::tell_untold;
+use crate::malformed::{tell, tell_untold};
 use crate::streams::Errors;
 use crate::unread::{report_input, report_unread, wrong_byte};
 use csv_records::reading::{LIMIT, RecordFault};
 use csv_records::streams::{InputFault, read_input};
-use desk_reasons::explaining::explain_batch;
+use desk_reasons::explaining::Reasons;
+use desk_texts::request_rows::requests_in;
 use program_clients::fault::Fault;
 use program_files::{FileFault, NamedFiles, STANDARD_INPUT};
 use std::alloc::Global;
@@ -16,33 +17,41 @@ use std::io::{Read, Write};
 // Why a text was not read.
 #[derive(Drop)]
 enum UnreadFault {
-    Unreadable,
+    // For this reason, where it was not opened.
+    Unreadable { why: Option<String> },
     Records(RecordFault),
 }
 
-// Writes a line for each request of the text of a reader that is malformed, and gives their number.
+// Adds a line for each request of a text that is malformed.
+fn check_text(alloc: Global, text: &[u8], reasons: &mut Reasons<'_>) -> Result<(), RecordFault> {
+    let requests = requests_in(alloc, text, reasons)?;
+    match reasons.tell_all(requests.as_slice()) {
+        Ok(()) => Ok(()),
+        Err(_) => Err(RecordFault::Memory),
+    }
+}
+
+// Writes a line for each request of the text of a reader that is malformed, and says whether one is.
 fn check_reader<R: Read, E: Write>(
     alloc: Global,
     name: &str,
     reader: &mut R,
     errors: &mut Errors<E>,
-) -> Result<u64, UnreadFault> {
+) -> Result<bool, UnreadFault> {
     let bytes = match read_input(alloc, reader, LIMIT) {
         Ok(bytes) => bytes,
-        Err(InputFault::Read) => return Err(UnreadFault::Unreadable),
+        Err(InputFault::Read) => return Err(UnreadFault::Unreadable { why: None }),
         Err(InputFault::TooLarge) => return Err(UnreadFault::Records(RecordFault::TooLarge)),
         Err(InputFault::Memory) => return Err(UnreadFault::Records(RecordFault::Memory)),
     };
-    match explain_batch(
-        alloc,
-        &mut errors.room,
-        name,
-        bytes.as_slice(),
-        &mut errors.writer,
-    ) {
-        Ok(count) => Ok(count),
+    let text = bytes.as_slice();
+    let mut reasons = Reasons::of_text(alloc, name, text, errors.room);
+    let checked = check_text(alloc, text, &mut reasons);
+    let malformed = tell(reasons, errors);
+    match checked {
+        Ok(()) => Ok(malformed > 0),
         Err(fault) => {
-            errors.wrong = wrong_byte(bytes.as_slice());
+            errors.wrong = wrong_byte(text);
             Err(UnreadFault::Records(fault))
         }
     }
@@ -55,20 +64,19 @@ fn check_named<F: NamedFiles, R: Read, E: Write>(
     name: &str,
     input: &mut R,
     errors: &mut Errors<E>,
-) -> Result<u64, UnreadFault> {
+) -> Result<bool, UnreadFault> {
     if name == STANDARD_INPUT {
         return check_reader(alloc, name, input, errors);
     }
     match files.open(name) {
         Ok(mut file) => check_reader(alloc, name, &mut file, errors),
         Err(FileFault::Memory) => Err(UnreadFault::Records(RecordFault::Memory)),
-        Err(FileFault::File { .. }) => Err(UnreadFault::Unreadable),
+        Err(FileFault::File { why, .. }) => Err(UnreadFault::Unreadable { why: Some(why) }),
     }
 }
 
 // Reports why the text of this name was not read.
 fn report_text<F: NamedFiles, E: Write>(
-    alloc: Global,
     fault: UnreadFault,
     files: &F,
     name: &str,
@@ -77,8 +85,8 @@ fn report_text<F: NamedFiles, E: Write>(
     ensures { result ≡ 3 }
 {
     match fault {
-        UnreadFault::Unreadable => {
-            report_unread(alloc, files, name, &mut errors.writer);
+        UnreadFault::Unreadable { why } => {
+            report_unread(files, name, &why, &mut errors.writer);
             3
         }
         UnreadFault::Records(fault) => report_input(&Fault::from(fault), name, errors),
@@ -107,10 +115,10 @@ pub fn check_texts<F: NamedFiles, R: Read, E: Write>(
     let mut has_malformed = false;
     for name in names {
         match check_named(alloc, files, name, input, errors) {
-            Ok(count) => has_malformed |= count > 0,
+            Ok(is_malformed) => has_malformed |= is_malformed,
             Err(fault) => {
                 tell_untold(errors);
-                return report_text(alloc, fault, files, name, errors);
+                return report_text(fault, files, name, errors);
             }
         }
     }

@@ -11,10 +11,12 @@ ghost use Rattle.program_clients.specs.declared.clients.Protocol.{Protocol};
 ghost use Rattle.program_commands.specs.Serving.{ServesConnection, batch, ending_line, exchange};
 
 use crate::batch::answer_batch;
+use crate::malformed::tell;
 use crate::streams::Streams;
 use desk_batch::BatchFault;
 use desk_http::laws::wanted_is_bounded;
 use desk_http::{HttpFault, Routes, serve_routed};
+use desk_reasons::explaining::Reasons;
 use price_rules::precedence::Precedence;
 use program_clients::clients::Protocol;
 use program_clients::fault::Fault;
@@ -66,14 +68,9 @@ fn print_batch_line<O: Write>(
     }
 }
 
-// Whether a reply says that a message is malformed, or refused for another reason of its own.
-fn is_unprocessable(outcome: &Result<u16, HttpFault>) -> bool {
-    matches!(outcome, Ok(422))
-}
-
 /// Serves a client by its protocol, as an exchange over HTTP, or as the batch of what it sends to
-/// the end, and writes the line of its connection. The routes are those of all exchanges. Of a batch
-/// a line on standard error says of each malformed request why, as far as there is room.
+/// the end, and writes the line of its connection. The routes are those of all exchanges. A line on
+/// standard error says of each malformed request and of a bad query why, as far as there is room.
 pub(crate) fn serve_connection<D: Desk, R: Read, W: Write, I, O: Write, E: Write>(
     alloc: Global,
     routes: &Routes,
@@ -93,6 +90,7 @@ pub(crate) fn serve_connection<D: Desk, R: Read, W: Write, I, O: Write, E: Write
     match client.protocol {
         Protocol::Exchange => {
             wanted_is_bounded();
+            let mut reasons = Reasons::of_exchange(alloc, streams.errors.room);
             let outcome = serve_routed(
                 alloc,
                 routes,
@@ -100,8 +98,9 @@ pub(crate) fn serve_connection<D: Desk, R: Read, W: Write, I, O: Write, E: Write
                 precedence,
                 &mut client.reader,
                 &mut client.writer,
+                &mut reasons,
             );
-            streams.errors.is_unprocessable = is_unprocessable(&outcome);
+            tell(reasons, &mut streams.errors);
             print_line(&outcome, &mut streams.output)
         }
         Protocol::Batch => {

@@ -9,12 +9,13 @@ ghost use Rattle.program_commands.specs.Deliveries.{Delivers, IsRead, IsTextOf, 
 ghost use Rattle.program_commands.specs.CommandEnds.{DeliverEnds};
 
 use crate::faults::fault_of_request;
-use crate::malformed::{tell_delivery, tell_end};
+use crate::malformed::{tell, tell_end};
 use crate::streams::{Errors, Streams};
 use crate::unread::{report_input, report_unread, wrong_byte};
 use csv_records::reading::{LIMIT, RecordFault, read_records};
 use csv_records::streams::{InputFault, read_input};
 use desk_batch::{RequestFault, run_request};
+use desk_reasons::explaining::Reasons;
 use price_rules::precedence::Precedence;
 use program_clients::fault::{Fault, report};
 use program_files::{FileFault, NamedFiles, STANDARD_INPUT};
@@ -26,8 +27,8 @@ use std::io::{Read, Write};
 /// Why the message of a file has no answer that is written whole.
 #[derive(Drop)]
 pub enum DeliveryFault {
-    /// The file cannot be opened or read. Nothing was asked of the desk.
-    Unreadable,
+    /// The file cannot be read, or not even be opened, for this reason. Nothing was asked of the desk.
+    Unreadable { why: Option<String> },
     /// Its text has no records, or memory ran out for them. Nothing was asked of the desk.
     Records(RecordFault),
     /// The delivery was asked of the desk.
@@ -51,7 +52,7 @@ fn text_from_reader<R: Read>(alloc: Global, reader: &mut R) -> Result<Vec<u8>, D
 {
     match read_input(alloc, reader, LIMIT) {
         Ok(bytes) => Ok(bytes),
-        Err(InputFault::Read) => Err(DeliveryFault::Unreadable),
+        Err(InputFault::Read) => Err(DeliveryFault::Unreadable { why: None }),
         Err(InputFault::TooLarge) => Err(DeliveryFault::Records(RecordFault::TooLarge)),
         Err(InputFault::Memory) => Err(DeliveryFault::Records(RecordFault::Memory)),
     }
@@ -87,13 +88,11 @@ pub fn deliver_one<D: Desk, R: Read, W: Write, E: Write>(
             return Err(fault);
         }
     };
-    let outcome = run_request(alloc, desk, precedence, &request, writer);
-    drop(request);
+    let mut reasons = Reasons::of_text(alloc, name, bytes, errors.room);
+    let outcome = run_request(alloc, desk, precedence, &request, writer, &mut reasons);
+    tell(reasons, errors);
     match outcome {
-        Ok(is_refused) => {
-            tell_delivery(alloc, is_refused, name, bytes, errors);
-            Ok(is_refused)
-        }
+        Ok(is_refused) => Ok(is_refused),
         Err(fault) => Err(DeliveryFault::Request(fault)),
     }
 }
@@ -104,7 +103,7 @@ fn open_fault(fault: FileFault) -> DeliveryFault
 {
     match fault {
         FileFault::Memory => DeliveryFault::Records(RecordFault::Memory),
-        FileFault::File { .. } => DeliveryFault::Unreadable,
+        FileFault::File { why, .. } => DeliveryFault::Unreadable { why: Some(why) },
     }
 }
 
@@ -145,7 +144,6 @@ fn deliver_named<D: Desk, F: NamedFiles, R: Read, W: Write, E: Write>(
 
 // Reports why the message of the file of this name has no answer, and gives the status.
 fn report_delivery<F: NamedFiles, E: Write>(
-    alloc: Global,
     fault: DeliveryFault,
     files: &F,
     name: &str,
@@ -154,8 +152,8 @@ fn report_delivery<F: NamedFiles, E: Write>(
     ensures { result ≡ 3 }
 {
     match fault {
-        DeliveryFault::Unreadable => {
-            report_unread(alloc, files, name, &mut errors.writer);
+        DeliveryFault::Unreadable { why } => {
+            report_unread(files, name, &why, &mut errors.writer);
             3
         }
         DeliveryFault::Records(fault) => report_input(&Fault::from(fault), name, errors),
@@ -197,7 +195,7 @@ pub fn deliver_files<D: Desk, F: NamedFiles, R: Read, W: Write, E: Write>(
                 has_refusal |= is_refused;
             }
             Err(fault) => {
-                return report_delivery(alloc, fault, files, name, &mut streams.errors);
+                return report_delivery(fault, files, name, &mut streams.errors);
             }
         }
     }

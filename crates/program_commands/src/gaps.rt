@@ -48,7 +48,10 @@ fn ask<D: Desk, W: Write>(
         (series_name_of name.now) result }
 {
     match SeriesName::read(name) {
-        Some(series) => run_request(alloc, desk, precedence, &Request::AskGaps(series), writer),
+        Some(series) => {
+            let request = Request::AskGaps(series);
+            run_request(alloc, desk, precedence, &request, writer, &mut ())
+        }
         None => answer_unknown(alloc, writer),
     }
 }

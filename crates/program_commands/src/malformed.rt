@@ -4,11 +4,7 @@
 use crate::streams::Errors;
 use crate::unread::wrong_byte;
 use desk_batch::BatchFault;
-use desk_reasons::explaining::{Room, explain_batch, explain_delivery, report_untold};
-use desk_reasons::questions::explain_question;
-use onix_terms::digits::read_digits;
-use program_clients::clients::Protocol;
-use std::alloc::Global;
+use desk_reasons::explaining::{Reasons, Room, report_untold};
 use std::io::Write;
 use std::time::{Clock, Duration, Instant};
 
@@ -27,88 +23,26 @@ fn tell_hint<E: Write>(errors: &mut Errors<E>) {
     }
 }
 
-/// Writes a line for each request of a batch that is malformed, as far as there is room, if so many
-/// requests of it were refused; and the hint where others were. Where memory runs out, the lines that
-/// are left are lost. Of a text that has no requests it is kept what is not UTF-8.
+/// Writes the lines on requests that are malformed, and gives how many are.
+pub(crate) fn tell<E: Write>(reasons: Reasons<'_>, errors: &mut Errors<E>) -> u64 {
+    let before = errors.room.malformed();
+    errors.room = reasons.write(&mut errors.writer);
+    errors.room.malformed().saturating_sub(before)
+}
+
+/// Writes the lines on the requests of a batch that are malformed; and the hint where others were
+/// refused. Of a text that has no requests it is kept what is not UTF-8.
 pub(crate) fn tell_refusals<E: Write>(
-    alloc: Global,
+    reasons: Reasons<'_>,
     text: &[u8],
     outcome: &Result<u64, BatchFault>,
     errors: &mut Errors<E>,
 ) {
-    let refused = match outcome {
-        Ok(refused) => *refused,
-        Err(BatchFault::Records(_)) => {
-            errors.wrong = wrong_byte(text);
-            0
-        }
-        Err(_) => 0,
-    };
-    if refused == 0 {
-        return;
-    }
-    match explain_batch(alloc, &mut errors.room, "", text, &mut errors.writer) {
-        Ok(malformed) if malformed < refused => tell_hint(errors),
+    let malformed = tell(reasons, errors);
+    match outcome {
+        Ok(refused) if malformed < *refused => tell_hint(errors),
+        Err(BatchFault::Records(_)) => errors.wrong = wrong_byte(text),
         _ => {}
-    }
-}
-
-/// Writes a line for each request of a batch that is malformed, 100 at most, and then how many more
-/// there are.
-pub(crate) fn tell_batch<E: Write>(alloc: Global, text: &[u8], errors: &mut Errors<E>) {
-    let _ = explain_batch(alloc, &mut errors.room, "", text, &mut errors.writer);
-    report_untold(&errors.room, &mut errors.writer);
-}
-
-/// Writes a line where the text of a file is refused, and is no message, as far as there is room.
-/// Where memory runs out, it is lost.
-pub(crate) fn tell_delivery<E: Write>(
-    alloc: Global,
-    is_refused: bool,
-    name: &str,
-    text: &[u8],
-    errors: &mut Errors<E>,
-) {
-    if is_refused {
-        let _ = explain_delivery(alloc, &mut errors.room, name, text, &mut errors.writer);
-    }
-}
-
-// How many bytes a request has behind its head, as that says; none where it does not.
-fn length_in(head: &str) -> Option<usize> {
-    for line in head.lines() {
-        if let Some((name, value)) = line.split_once(':') {
-            if name.eq_ignore_ascii_case("content-length") {
-                return Some(read_digits(value.trim())? as usize);
-            }
-        }
-    }
-    None
-}
-
-// The message that a request posts; none where it posts none.
-fn posted_in(request: &[u8]) -> Option<&[u8]> {
-    let text = std::str::from_utf8(request).ok()?;
-    let (head, body) = text.strip_prefix("POST ")?.split_once("\r\n\r\n")?;
-    body.as_bytes().get(..length_in(head)?)
-}
-
-/// Writes a line where an exchange over HTTP, of whose request these bytes were kept, asks by a bad
-/// query, or posts what is no message, as far as there is room. Where memory runs out, it is lost.
-pub(crate) fn tell_exchange<E: Write>(
-    alloc: Global,
-    protocol: Protocol,
-    request: &[u8],
-    errors: &mut Errors<E>,
-) {
-    let Protocol::Exchange = protocol else {
-        return;
-    };
-    let _ = explain_question(alloc, &mut errors.room, request, &mut errors.writer);
-    if errors.is_unprocessable {
-        if let Some(message) = posted_in(request) {
-            let _ = explain_delivery(alloc, &mut errors.room, "", message, &mut errors.writer);
-        }
     }
 }
 

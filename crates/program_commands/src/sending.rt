@@ -11,15 +11,17 @@ ghost use Rattle.desk_texts.specs.Records.{begins_with, is_one_of};
 ghost use Rattle.desk_texts.specs.Requests.{HasRecords, requests_of};
 ghost use Rattle.program_commands.specs.Sending.{SendEnds, SendFits, TakesAnswers, WritesCame, answer_names, report_names, unanswered};
 
-use crate::malformed::tell_batch;
+use crate::malformed::{tell, tell_untold};
 use crate::streams::{Errors, Streams};
 use crate::unread::{report_input, wrong_byte};
 use csv::StringRecord;
 use csv_records::reading::{LIMIT, RecordReader};
 use csv_records::streams::{InputFault, WriteFault, read_input, write_whole};
+use desk_reasons::explaining::Reasons;
 use desk_texts::request_rows::requests_in;
 use program_clients::fault::{CausedFault, Fault, report_why};
 use program_clients::open_desks::OpenDesks;
+use series_rules::requests::Request;
 use std::alloc::{AllocError, Global};
 use std::io::{Read, Write};
 
@@ -157,13 +159,10 @@ fn take_answers<S: Read, W: Write>(
     }
 }
 
-// How many requests the batch of a text has. A text that is none is the fault that it is to a desk.
-fn count_requests(alloc: Global, text: &[u8]) -> Result<usize, Fault>
-    ensures { IfOk result (λ count. HasRecords text.now × (count ≡ length (requests_of text.now))) }
-{
-    match requests_in(alloc, text) {
-        Ok(requests) => Ok(requests.len()),
-        Err(fault) => Err(Fault::from(fault)),
+// Adds the lines of those requests that are malformed, where one is refused, as far as memory goes.
+fn tell_refused(refused: bool, requests: &[Request], reasons: &mut Reasons<'_>) {
+    if refused {
+        let _ = reasons.tell_all(requests);
     }
 }
 
@@ -177,23 +176,30 @@ fn unanswered_by(fault: Fault) -> CausedFault {
 }
 
 // Sends the batch of a text to the desk at a socket, writes the answers, and says whether one is a
-// refusal.
+// refusal. Then the lines of its malformed requests are added.
 fn send_batch<K: OpenDesks, W: Write>(
     alloc: Global,
     desks: &K,
     socket: &str,
     text: &[u8],
     output: &mut W,
+    reasons: &mut Reasons<'_>,
 ) -> Result<bool, CausedFault>
     ensures { SendFits text.now (Appends (W.contents output.old) (W.contents output.new)) result }
 {
-    let asked = match count_requests(alloc, text) {
-        Ok(asked) => asked,
-        Err(fault) => return Err(CausedFault { fault, why: None }),
+    let requests = match requests_in(alloc, text, reasons) {
+        Ok(requests) => requests,
+        Err(fault) => {
+            let fault = Fault::from(fault);
+            return Err(CausedFault { fault, why: None });
+        }
     };
     match desks.send(socket, text) {
-        Ok(mut from) => match take_answers(alloc, asked, &mut from, output) {
-            Ok(refused) => Ok(refused),
+        Ok(mut from) => match take_answers(alloc, requests.len(), &mut from, output) {
+            Ok(refused) => {
+                tell_refused(refused, requests.as_slice(), reasons);
+                Ok(refused)
+            }
             Err(fault) => Err(unanswered_by(fault)),
         },
         Err(why) => Err(CausedFault {
@@ -251,12 +257,22 @@ pub fn send_input<K: OpenDesks, R: Read, W: Write, E: Write>(
         Ok(text) => text,
         Err(fault) => return report_input(&fault, "", &mut streams.errors),
     };
-    match send_batch(alloc, desks, socket, text.as_slice(), &mut streams.output) {
+    let bytes = text.as_slice();
+    let mut reasons = Reasons::of_text(alloc, "", bytes, streams.errors.room);
+    match send_batch(
+        alloc,
+        desks,
+        socket,
+        bytes,
+        &mut streams.output,
+        &mut reasons,
+    ) {
         Ok(false) => 0,
         Ok(true) => {
-            tell_batch(alloc, text.as_slice(), &mut streams.errors);
+            tell(reasons, &mut streams.errors);
+            tell_untold(&mut streams.errors);
             1
         }
-        Err(unsent) => report_unsent(&unsent, socket, text.as_slice(), &mut streams.errors),
+        Err(unsent) => report_unsent(&unsent, socket, bytes, &mut streams.errors),
     }
 }

@@ -10,8 +10,7 @@ ghost use Rattle.program_commands.specs.Serving.{listening_line};
 ghost use Rattle.program_commands.specs.CommandEnds.{ConnectionsServed, ServeEnds};
 
 use crate::connection::{Client, print_line, serve_connection};
-use crate::front::Front;
-use crate::malformed::{renew, tell_exchange, tell_untold};
+use crate::malformed::{renew, tell_untold};
 use crate::streams::Streams;
 use desk_http::{HttpFault, Routes};
 use price_rules::precedence::Precedence;
@@ -34,9 +33,7 @@ pub struct Place<'a> {
 }
 
 // Waits for a client, serves its connection, and writes the line of that. Of a client that was gone
-// before nothing was read, and nothing was asked of the desk. Of a question over HTTP whose query
-// is bad, and of a message that is none, a line on standard error says why, as far as there is
-// room.
+// before nothing was read, and nothing was asked of the desk.
 fn serve_next<D: Desk, T: Clock, C: Clients, I, O: Write, E: Write>(
     alloc: Global,
     clock: &T,
@@ -56,17 +53,16 @@ fn serve_next<D: Desk, T: Clock, C: Clients, I, O: Write, E: Write>(
             renew(clock, &mut streams.errors);
             let mut client = Client {
                 protocol,
-                reader: Front::new(alloc, reader),
+                reader,
                 writer,
             };
             let ended = serve_connection(alloc, routes, desk, precedence, &mut client, streams);
             let Client {
-                protocol,
+                protocol: _,
                 reader,
                 writer,
             } = client;
-            tell_exchange(alloc, protocol, reader.kept(), &mut streams.errors);
-            clients.disconnect(reader.into_reader(), writer);
+            clients.disconnect(reader, writer);
             ended
         }
         Ok(None) => print_line(&Err(HttpFault::Read), &mut streams.output),

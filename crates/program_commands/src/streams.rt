@@ -18,8 +18,6 @@ pub struct Errors<E> {
     pub(crate) since: Option<Instant>,
     /// What is written behind other refusals, where it is not empty.
     pub hint: &'static str,
-    /// Whether the last exchange was answered by 422, as one is whose message is malformed.
-    pub(crate) is_unprocessable: bool,
     /// What of the last text that was no batch and no message is not UTF-8.
     pub(crate) wrong: Option<WrongByte>,
 }
@@ -33,7 +31,6 @@ impl<E> Errors<E> {
             room: Room::new(MOST_LINES),
             since: None,
             hint: "",
-            is_unprocessable: false,
             wrong: None,
         }
     }

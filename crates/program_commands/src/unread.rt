@@ -3,38 +3,24 @@
 ghost use Rattle.std.specs.Prelude.{◌≡◌};
 
 use crate::streams::Errors;
-use program_clients::fault::{Fault, report, report_cause, report_file};
-use program_files::{FileFault, NamedFiles, STANDARD_INPUT};
-use std::alloc::Global;
-use std::io::{Read, Write};
+use program_clients::fault::{Fault, report, report_file, why_unread};
+use program_files::{NamedFiles, STANDARD_INPUT};
+use std::io::Write;
 
-// What the system says of a file where it is opened again, and its first byte is read.
-fn fault_of<F: NamedFiles>(alloc: Global, files: &F, name: &str) -> Option<FileFault> {
-    let mut first = [0u8; 1];
-    match files.open(name) {
-        Ok(mut file) => match file.read(&mut first) {
-            Ok(_) => None,
-            Err(error) => Some(FileFault::of(alloc, name, &error)),
-        },
-        Err(fault) => Some(fault),
-    }
-}
-
-/// Writes the line of a file that cannot be read, and in a second what the system says of it. Of
-/// standard input it says nothing more.
+/// Writes the line of a file that cannot be read, and in a second what the system says of it: WHY,
+/// where it was not opened. Of standard input it says nothing more.
 pub(crate) fn report_unread<F: NamedFiles, E: Write>(
-    alloc: Global,
     files: &F,
     name: &str,
+    why: &Option<String>,
     errors: &mut E,
 ) {
-    report_file(name, errors);
-    if name == STANDARD_INPUT {
-        return;
-    }
-    let fault = fault_of(alloc, files, name);
-    if let Some(FileFault::File { why, .. }) = &fault {
-        report_cause(name, why.as_str(), errors);
+    match why {
+        Some(why) => report_file(name, why.as_str(), errors),
+        None => {
+            let is_folder = name != STANDARD_INPUT && files.is_folder(name);
+            report_file(name, why_unread(is_folder), errors);
+        }
     }
 }
 

@@ -1,7 +1,7 @@
 //! The precedence table in a file: `rules` reads it, and `checking` before a desk begins with it,
 //! whose faults `rules_faults` tells. And the table of the shop's terms: `terms` reads it, and
 //! `terms_checking` before feeds are converted with it; `terms_faults` tells its faults. `places`
-//! has their lines, and `unread` why a file is not read.
+//! has their lines, and `unread` reads the text of a file.
 #![tactic(auto)]
 
 pub mod checking;

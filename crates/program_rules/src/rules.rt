@@ -1,17 +1,18 @@
-//! The precedence table of the shop, from the file that `--rules` names.
+//! The precedence table of the shop in a file, whose faults are told with their cause.
 
-ghost use Rattle.std.specs.Prelude.{◌≡◌, ◌≤◌, ℕ, List, Err, IfErr, IfOk, length};
+ghost use Rattle.std.specs.Prelude.{◌≡◌, ◌≤◌, ℕ, List, Err, length};
 ghost use Rattle.csv_records.specs.RecordTexts.{limit};
-ghost use Rattle.csv_records.specs.Streams.{InputFits, IsTold};
+ghost use Rattle.csv_records.specs.Streams.{InputFits};
 ghost use Rattle.program_rules.specs.RulesFile.{ReadsTable, RulesFit, status_of};
 
-use csv_records::reading::LIMIT;
-use csv_records::streams::{InputFault, read_input};
+use crate::rules_faults::write_cause;
+use crate::unread::read_text;
+use csv_records::streams::InputFault;
 use price_rules::precedence::{Precedence, PrecedenceFault};
-use program_clients::fault::{Fault, report, report_file};
-use program_files::{FileFault, NamedFiles};
+use program_clients::fault::{Fault, report};
+use program_files::NamedFiles;
 use std::alloc::Global;
-use std::io::{Read, Write};
+use std::io::Write;
 
 /// Why a rules file gives no precedence table.
 #[derive(Drop)]
@@ -37,71 +38,89 @@ pub fn table_of(alloc: Global, bytes: &[u8]) -> Result<Precedence, RulesFault>
     }
 }
 
-// Why a file was not opened.
-fn open_fault(fault: FileFault) -> RulesFault
-    ensures { (text : List ℕ) → RulesFit text (Err result) }
+// Writes the line of a fault of the file behind `--rules`.
+fn report_fault<E: Write>(fault: &PrecedenceFault, errors: &mut E) {
+    let _ = write!(errors, "onixdesk: rules: {fault}\n");
+}
+
+// Reports why a file has no text, as far as that is not done.
+fn report_unread<E: Write>(
+    fault: InputFault,
+    name: &str,
+    is_option: bool,
+    errors: &mut E,
+) -> RulesFault
+    ensures { (text : List ℕ) → InputFits limit text fault → RulesFit text (Err result) }
 {
     match fault {
-        FileFault::Memory => RulesFault::Table(PrecedenceFault::Memory),
-        FileFault::File { .. } => RulesFault::Unreadable,
+        InputFault::Read => RulesFault::Unreadable,
+        InputFault::TooLarge => {
+            if is_option {
+                report_fault(&PrecedenceFault::NotToml, errors);
+            }
+            let _ = write!(errors, "onixdesk: {name}: more than 4,194,304 bytes\n");
+            RulesFault::Table(PrecedenceFault::NotToml)
+        }
+        InputFault::Memory => {
+            report(&Fault::Memory, errors);
+            RulesFault::Table(PrecedenceFault::Memory)
+        }
     }
 }
 
-/// Reads the table that the text of a reader is. At most one byte past the limit is read.
-pub fn read_table<R: Read>(alloc: Global, reader: &mut R) -> Result<Precedence, RulesFault>
-    // There is a text, that of the reader where it tells its bytes, of which this is the table or
-    // the fault.
-    ensures { ReadsTable (R.remaining reader.old) result }
-{
-    match read_input(alloc, reader, LIMIT) {
-        Ok(bytes) => table_of(alloc, bytes.as_slice()),
-        Err(InputFault::Read) => Err(RulesFault::Unreadable),
-        Err(InputFault::TooLarge) => Err(RulesFault::Table(PrecedenceFault::NotToml)),
-        Err(InputFault::Memory) => Err(RulesFault::Table(PrecedenceFault::Memory)),
+// Reports why the text of a file is no precedence table, and in which line.
+fn report_text<E: Write>(
+    alloc: Global,
+    name: &str,
+    text: &[u8],
+    fault: &RulesFault,
+    is_option: bool,
+    errors: &mut E,
+) {
+    match fault {
+        RulesFault::Table(PrecedenceFault::Memory) => {
+            report(&Fault::Memory, errors);
+        }
+        RulesFault::Table(fault) => {
+            if is_option {
+                report_fault(fault, errors);
+            }
+            write_cause(alloc, name, text, fault, errors);
+        }
+        RulesFault::Unreadable => {}
     }
 }
 
-/// The text of the file of this name. The fault is `Read` also where it cannot be opened.
-pub fn read_text<F: NamedFiles>(alloc: Global, files: &F, name: &str) -> Result<Vec<u8>, InputFault>
-    ensures ok { IfOk result (λ bytes. (length bytes.items ≤ limit)
-        × IsTold (F.holds files.now name.now) bytes.items) }
-    ensures err { IfErr result (λ f. (text : List ℕ) × IsTold (F.holds files.now name.now) text
-        × InputFits limit text f) }
-{
-    match files.open(name) {
-        Ok(mut file) => read_input(alloc, &mut file, LIMIT),
-        Err(FileFault::Memory) => Err(InputFault::Memory),
-        Err(FileFault::File { .. }) => Err(InputFault::Read),
-    }
-}
-
-/// Reads the table in the file of this name.
-pub fn open_table<F: NamedFiles>(
+/// Reads the table in the file of this name. If there is none, or the file cannot be read, that is
+/// reported with its cause, behind the line of the fault where `--rules` names the file.
+pub fn open_table<F: NamedFiles, E: Write>(
     alloc: Global,
     files: &F,
     name: &str,
+    is_option: bool,
+    errors: &mut E,
 ) -> Result<Precedence, RulesFault>
     // There is a text, that of the file where it is told what files hold, of which this is the
     // table or the fault.
     ensures { ReadsTable (F.holds files.now name.now) result }
 {
-    match files.open(name) {
-        Ok(mut file) => read_table(alloc, &mut file),
-        Err(fault) => Err(open_fault(fault)),
+    let text = match read_text(alloc, files, name, errors) {
+        Ok(text) => text,
+        Err(fault) => return Err(report_unread(fault, name, is_option, errors)),
+    };
+    let read = table_of(alloc, text.as_slice());
+    if let Err(fault) = &read {
+        report_text(alloc, name, text.as_slice(), fault, is_option, errors);
     }
+    read
 }
 
-/// Writes the line of a fault of the rules file of this name, and gives the status: 3 when out of
-/// memory, else 2.
-pub fn report_rules<E: Write>(fault: &RulesFault, name: &str, errors: &mut E) -> u8
+/// The exit status after a fault: 3 when out of memory, else 2.
+pub fn status_of(fault: &RulesFault) -> u8
     ensures { result ≡ status_of fault.now }
 {
     match fault {
-        RulesFault::Unreadable => report_file(name, errors),
-        RulesFault::Table(PrecedenceFault::Memory) => return report(&Fault::Memory, errors),
-        RulesFault::Table(fault) => {
-            let _ = write!(errors, "onixdesk: rules: {fault}\n");
-        }
+        RulesFault::Table(PrecedenceFault::Memory) => 3,
+        _ => 2,
     }
-    2
 }

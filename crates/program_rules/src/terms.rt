@@ -7,43 +7,33 @@ ghost use Rattle.feed_terms.specs.Reading.{TermsFit};
 ghost use Rattle.feed_terms.specs.declared.reading.ReadFault.{ReadFault};
 ghost use Rattle.program_rules.specs.TermsRead.{IsUnreadTable, ReadsTerms, terms_status};
 
-use crate::rules::read_text;
 use crate::terms_faults::write_cause;
-use crate::unread::tell_unread;
+use crate::unread::read_text;
 use csv_records::streams::InputFault;
 use feed_terms::reading::{ReadFault, terms_of};
 use feed_terms::table::Terms;
 use feed_terms::term::TermsFault;
-use program_clients::fault::{Fault, report, report_file};
+use program_clients::fault::{Fault, report};
 use program_files::NamedFiles;
 use std::alloc::Global;
 use std::io::Write;
 
-// Writes why a file was not read, and gives the status.
-fn report_unread<F: NamedFiles, E: Write>(
-    alloc: Global,
-    fault: &InputFault,
-    files: &F,
-    name: &str,
-    errors: &mut E,
-) -> u8
+// Reports why a file has no text, as far as that is not done, and gives the status.
+fn report_unread<E: Write>(fault: &InputFault, errors: &mut E) -> u8
     ensures { (text : List ℕ) → InputFits limit text fault.now
         → (f : ReadFault) × TermsFit text (Err f) × (result ≡ terms_status f) }
 {
     match fault {
-        InputFault::Read => {
-            report_file(name, errors);
-            tell_unread(alloc, files, name, errors);
-        }
+        InputFault::Read => 2,
         InputFault::TooLarge => {
             let _ = write!(
                 errors,
                 "onixdesk: terms: not TOML: more than 4,194,304 bytes\n"
             );
+            2
         }
-        InputFault::Memory => return report(&Fault::Memory, errors),
+        InputFault::Memory => report(&Fault::Memory, errors),
     }
-    2
 }
 
 // Writes why a text is no table of terms, and gives the status.
@@ -69,9 +59,9 @@ pub fn open_terms<F: NamedFiles, E: Write>(
     ensures ok { IfOk result (λ terms. ReadsTerms (F.holds files.now name.now) (Ok terms)) }
     ensures err { IfErr result (IsUnreadTable (F.holds files.now name.now)) }
 {
-    let text = match read_text(alloc, files, name) {
+    let text = match read_text(alloc, files, name, errors) {
         Ok(text) => text,
-        Err(fault) => return Err(report_unread(alloc, &fault, files, name, errors)),
+        Err(fault) => return Err(report_unread(&fault, errors)),
     };
     match terms_of(alloc, text.as_slice()) {
         Ok(terms) => Ok(terms),

@@ -24,7 +24,7 @@ use program_commands::streams::Streams;
 use program_desks::files_left::FilesLeft;
 use program_desks::kept_desks::KeepsDesks;
 use program_files::NamedFiles;
-use program_rules::rules::{RulesFault, open_table, report_rules};
+use program_rules::rules::{RulesFault, open_table, status_of};
 use program_rules::{checking, terms_checking};
 use program_words::hints::{BATCH_TO_SOCKET, FILE_BEFORE};
 use program_words::invocation::{self, Action, Database, Invocation, Reading, Task};
@@ -186,17 +186,18 @@ fn run_action<
     (status, FilesLeft::Untouched(databases))
 }
 
-// The rules of the file of that name, or none where none is named.
-fn rules_of<F: NamedFiles>(
+// The rules of the file of that name, or none where none is named. A fault is reported.
+fn rules_of<F: NamedFiles, E: Write>(
     alloc: Global,
     files: &F,
     name: Option<&str>,
+    errors: &mut E,
 ) -> Result<Precedence, RulesFault>
     ensures { ReadsRules (F.holds files.now) name.entry result }
 {
     match name {
         None => Ok(Precedence::none(alloc)),
-        Some(name) => open_table(alloc, files, name),
+        Some(name) => open_table(alloc, files, name, true, errors),
     }
 }
 
@@ -266,15 +267,10 @@ fn run_words<
         Ok(invocation) => invocation,
         Err(status) => return (status, FilesLeft::Untouched(databases)),
     };
-    let precedence = match rules_of(alloc, &machine.files, invocation.rules) {
+    let errors = &mut machine.streams.errors.writer;
+    let precedence = match rules_of(alloc, &machine.files, invocation.rules, errors) {
         Ok(precedence) => precedence,
-        Err(fault) => {
-            let name = invocation.rules.unwrap_or("");
-            let errors = &mut machine.streams.errors.writer;
-            let status = report_rules(&fault, name, errors);
-            checking::tell_cause(alloc, &machine.files, name, errors);
-            return (status, FilesLeft::Untouched(databases));
-        }
+        Err(fault) => return (status_of(&fault), FilesLeft::Untouched(databases)),
     };
     let ended = run_action(
         alloc,

@@ -5,7 +5,9 @@ The mistakes stand in tests/refusals/requests.txt: the name of a case is what it
 
 from collections.abc import Iterator
 
+from tests.program.databases import DATABASE
 from tests.program.room import Ran, Room
+from tests.program.serving import serving
 from tests.program.written_cases import TESTS, read_file
 from tests.running import Outcome
 
@@ -37,6 +39,40 @@ def answered(room: Room) -> Iterator[Outcome]:
         came = room.told("batch", given=case.text.encode())
         said = came.status, b"refused,malformed," in came.output, came.errors
         yield Outcome(f"answered: {case.name}", said, (1, True, line(case.name)))
+
+
+# A batch with right and wrong pieces, and how the lines on the wrong ones begin: one of two records, an empty line
+# behind it, one with a line break in a field, a message, and one behind the message.
+MIXED = b"""Agree,north,06,4012345000009,06,5012345678900,1
+AskGaps
+more,1
+
+AskGaps,north
+AskGaps,"a
+b"
+Message,1,06,4012345000009,06,5012345678900,1,1,20250301,,
+EndMessage,9
+AskGaps,North
+"""
+WRONG = ["line 2: AskGaps: ", "line 6: AskGaps: ", "line 9: EndMessage: ", "line 10: AskGaps: "]
+
+
+def begin(lines: bytes) -> bool:
+    """Whether these are the lines on the wrong pieces."""
+    found = lines.decode().splitlines()
+    return len(found) == len(WRONG) and all(map(str.startswith, found, [f"onixdesk: {wrong}" for wrong in WRONG]))
+
+
+def mixed(room: Room) -> Iterator[Outcome]:
+    """The lines come in the order of the text: of `check`, of `batch`, of who sends a batch, and of the desk."""
+    checked = room.told("check", "-", given=MIXED)
+    yield Outcome("mixed: checked", begin(checked.errors.replace(b"onixdesk: -: ", b"onixdesk: ")), True)
+    came = room.told("--db", DATABASE, "batch", given=MIXED)
+    yield Outcome("mixed: answered", (came.status, begin(came.errors)), (1, True))
+    with serving(room, ["--db", DATABASE], 1, ["--batches", "desk.socket"]) as desk:
+        sent = room.told("--batches", "desk.socket", "batch", given=MIXED)
+        yield Outcome("mixed: sent", (sent.status, begin(sent.errors)), (1, True))
+        yield Outcome("mixed: by the desk", begin(desk.told().errors), True)
 
 
 def right_texts(room: Room) -> Iterator[Outcome]:

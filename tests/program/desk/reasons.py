@@ -3,6 +3,7 @@ port, a socket, a rules file; and the line on a refusal, by its kind. How they a
 
 import os
 import socket
+import threading
 from collections.abc import Iterator
 from typing import NamedTuple
 
@@ -74,6 +75,30 @@ def files(room: Room) -> Iterator[Outcome]:
     room.write("rules.toml", b'[[rule]]\nserie = "*"\n')
     came = told(room.told("--rules", "rules.toml", "batch"), "rules.toml: line 2")
     yield Outcome("why: a rules file", came, fault("rules: bad rule 1", status=2))
+
+
+# What is wrong in files, by the words that name one of them `pipe`, and how the last line on it begins.
+PIPED = {
+    ("--rules", "pipe", "batch"): (b'[[rule]]\nserie = "*"\n', 2, "pipe: line 2: rule 1 "),
+    ("rules", "pipe"): (b"rule = 1\n", 2, "pipe: line 1: rule is no array"),
+    ("terms", "pipe"): (b"term = 1\n", 2, "terms: not TOML: line 1: "),
+    ("convert", "--terms", "pipe"): (b"\nterm = 1\n", 2, "terms: not TOML: line 2: "),
+    ("deliver", "pipe"): (b"\n<ONIXMessage>", 1, "pipe: line 2: <ONIXMessage>: "),
+    ("check", "pipe"): (b"AskGaps,north\nAskGaps\n", 1, "pipe: line 2: AskGaps: "),
+}
+
+
+def pipes(room: Room) -> Iterator[Outcome]:
+    """A file that is a pipe is opened once, also where it is wrong."""
+    path = room.path("pipe")
+    os.mkfifo(path)
+    for words, (text, status, line) in PIPED.items():
+        writer = threading.Thread(target=path.write_bytes, args=[text])
+        writer.start()
+        came = room.told("--db", DATABASE, *words) if words[0] == "deliver" else room.told(*words)
+        writer.join()
+        found = came.status, came.errors.decode().splitlines()[-1].startswith(f"onixdesk: {line}")
+        yield Outcome(f"why: a pipe: {' '.join(words)}", found, (status, True))
 
 
 # Behind an `é` in UTF-8 one in ISO-8859-1, and half of one at an end.
@@ -183,8 +208,8 @@ def bad_queries(room: Room) -> Iterator[Outcome]:
 
 # Posted messages, each with how the line of the desk on it begins; none where it says nothing.
 POSTED = {
-    b"Message,1,06,4012345000009,06,5012345678900,1,1,20250301,,\nEndMessage,5\n": "line 2: EndMessage: ",
-    b"<ONIXMessage>": "line 1: <ONIXMessage>: ",
+    b"Message,1,06,4012345000009,06,5012345678900,1,1,20250301,,\nEndMessage,5\n": "row 2: EndMessage: ",
+    b"<ONIXMessage>": "row 1: <ONIXMessage>: ",
     UNNUMBERED: None,
 }
 

@@ -1,4 +1,4 @@
-use Rattle.std.proofs.Common.{None, []}
+use Rattle.std.proofs.Common.{◌∙◌, None, [], ap, length}
 use Rattle.std.proofs.KnownBytes.{Appends-nil, Consumes-nil}
 use Rattle.std.specs.Io.KnownBytes.{Appends}
 use Rattle.program_clients.specs.declared.fault.CausedFault.{CausedFault}
@@ -17,7 +17,7 @@ returns g c =
 
 pub returns-in-Ok-take_answers : goal.returns-in-Ok-take_answers
 returns-in-Ok-take_answers g c =
-    sent_whole CausedFault c.args.text.now c.in-Ok.asked _ _ c.in-Ok-take_answers.refused c.in-Ok.ensures.0 c.in-Ok.ensures.1 c.in-Ok-take_answers.ensures
+    sent_whole CausedFault c.args.text.now c.len.result _ _ c.in-Ok-take_answers.refused c.in-Ok.ensures.0 (c.len.ensures ∙ ap length c.in-Ok.ensures.1) c.in-Ok-take_answers.ensures
 
 pub returns-in-Ok-send : goal.returns-in-Ok-send
 returns-in-Ok-send g c = sent_part _ _ c.in-Err-take_answers.ensures

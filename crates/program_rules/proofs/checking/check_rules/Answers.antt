@@ -13,13 +13,7 @@ at_most (rules_fault.Table (fault.BadRule number)) = omega arith
 at_most rules_fault.Unreadable = omega arith
 
 pub returns-in-Err-clause-status : goal.returns-in-Err-clause-status
-returns-in-Err-clause-status g c =
-    let read = c.in-Err.ensures.err in
-    let told = c.report_unread.ensures read.0 read.2 in
-    subst (λ s. s ≤ 3) (sym told.2) (at_most told.0)
+returns-in-Err-clause-status g c = subst (λ s. s ≤ 3) (sym c.status_of.ensures) (at_most c.in-Err.fault)
 
 pub returns-in-Err-clause-end : goal.returns-in-Err-clause-end
-returns-in-Err-clause-end g c =
-    let read = c.in-Err.ensures.err in
-    let told = c.report_unread.ensures read.0 read.2 in
-    (Err told.0, (read.0, read.1, told.1), (told.2, Appends-nil (g.W.Write.contents c.args.output.now)))
+returns-in-Err-clause-end g c = (Err c.in-Err.fault, c.in-Err.ensures, (c.status_of.ensures, Appends-nil (g.W.Write.contents c.args.output.now)))

@@ -1,13 +1,13 @@
 //! Why a record may not stand where it stands, in words.
 
-use crate::fields::{Field, push_hint, rule, takes};
-use crate::rows::{Counts, counts_of, fields_of, is_of_message, is_request};
+use crate::fields::{Field, hint, rule, takes};
+use crate::rows::{Form, form_of, is_of_message, is_request};
 use csv_records::record::Record;
 use csv_records::records::Records;
 use onix_records::MOST_RECORDS;
 use onix_records::fields::is_clean;
 use onix_terms::digits::read_digits;
-use std::alloc::{AllocError, Global};
+use std::alloc::AllocError;
 use watched_output::shown_texts::push_shown;
 
 // How many characters of a field are shown.
@@ -58,7 +58,7 @@ pub(crate) fn push_broken(text: &mut String, field: Field, value: &str) -> Resul
     push_value(text, field.name, value)?;
     text.push_str(" is not ")?;
     text.push_str(rule(field.kind))?;
-    push_hint(text, field.kind, value)
+    text.push_str(hint(field.kind, value))
 }
 
 // Adds that a field has what no field may have, and says whether one has.
@@ -75,12 +75,12 @@ fn push_unclean(text: &mut String, record: &Record<'_>) -> Result<bool, AllocErr
 }
 
 // Adds how many fields a record may have.
-fn push_counts(text: &mut String, counts: Counts) -> Result<(), AllocError> {
-    write!(text, "{}", counts.least)?;
-    if counts.most == usize::MAX {
+fn push_counts(text: &mut String, form: Form) -> Result<(), AllocError> {
+    write!(text, "{}", form.least)?;
+    if form.most == usize::MAX {
         text.push_str(" or more")
-    } else if counts.most > counts.least {
-        write!(text, " or {}", counts.most)
+    } else if form.most > form.least {
+        write!(text, " or {}", form.most)
     } else {
         Ok(())
     }
@@ -88,22 +88,14 @@ fn push_counts(text: &mut String, counts: Counts) -> Result<(), AllocError> {
 
 // Adds the names of a record and of its fields, as they are written; in brackets those that may be
 // left out.
-fn push_form(
-    alloc: Global,
-    text: &mut String,
-    name: &str,
-    counts: Counts,
-) -> Result<(), AllocError> {
+fn push_form(text: &mut String, name: &str, form: Form) -> Result<(), AllocError> {
     text.push_str(name)?;
-    let fields = fields_of(alloc, name, counts.least)?;
-    for (place, field) in fields.as_slice().iter().enumerate() {
-        if place >= counts.most {
-            return Ok(());
+    for (place, field) in form.fields.iter().take(form.most).enumerate() {
+        if place < form.least {
+            write!(text, ",{}", field.name)?;
+        } else {
+            write!(text, "[,{}]", field.name)?;
         }
-        let is_needed = place < counts.least;
-        text.push_str(if is_needed { "," } else { "[," })?;
-        text.push_str(field.name)?;
-        text.push_str(if is_needed { "" } else { "]" })?;
     }
     Ok(())
 }
@@ -118,21 +110,16 @@ fn hint_of_form(name: &str) -> &'static str {
 }
 
 // Adds that a record has too many fields, or too few, and which it has to have.
-fn push_miscounted(
-    alloc: Global,
-    text: &mut String,
-    record: &Record<'_>,
-    counts: Counts,
-) -> Result<(), AllocError> {
+fn push_miscounted(text: &mut String, record: &Record<'_>, form: Form) -> Result<(), AllocError> {
     let count = count_of(record);
     let fields = if count == 1 { "field" } else { "fields" };
     write!(text, "{count} {fields} behind its name, not ")?;
-    push_counts(text, counts)?;
+    push_counts(text, form)?;
     text.push_str(": ")?;
-    push_form(alloc, text, field_at(record, 0), counts)?;
+    push_form(text, field_at(record, 0), form)?;
     text.push_str(hint_of_form(field_at(record, 0)))?;
-    let has_empty = count.saturating_sub(count_empty(record)) <= counts.most;
-    if count > counts.most && has_empty {
+    let has_empty = count.saturating_sub(count_empty(record)) <= form.most;
+    if count > form.most && has_empty {
         text.push_str("; leave out the empty fields at its end, which a spreadsheet adds")
     } else {
         Ok(())
@@ -188,38 +175,38 @@ fn push_pairs(text: &mut String, record: &Record<'_>) -> Result<bool, AllocError
 
 // Adds the first field that breaks its rule, and says whether one does.
 fn push_first_broken(
-    alloc: Global,
     text: &mut String,
     record: &Record<'_>,
+    form: Form,
 ) -> Result<bool, AllocError> {
-    let fields = fields_of(alloc, field_at(record, 0), count_of(record))?;
-    for (place, field) in fields.as_slice().iter().enumerate() {
-        let Some(value) = record.get(place.saturating_add(1)) else {
+    for place in 1..record.len() {
+        let Some(field) = form.field(place - 1) else {
             return Ok(false);
         };
-        if !takes(*field, value) {
-            push_broken(text, *field, value)?;
+        let value = field_at(record, place);
+        if !takes(field, value) {
+            push_broken(text, field, value)?;
             return Ok(true);
         }
     }
     Ok(false)
 }
 
-// Adds what is wrong with a record by itself, which has a name that records have, and says whether
-// something is.
+// Adds what is wrong with a record by itself, and says whether something is.
 fn push_row(
-    alloc: Global,
     text: &mut String,
     record: &Record<'_>,
     has_minimums: bool,
 ) -> Result<bool, AllocError> {
-    let counts = counts_of(field_at(record, 0), has_minimums);
+    let Some(form) = form_of(field_at(record, 0), has_minimums) else {
+        return Ok(false);
+    };
     let count = count_of(record);
-    if count < counts.least || count > counts.most {
-        push_miscounted(alloc, text, record, counts)?;
+    if count < form.least || count > form.most {
+        push_miscounted(text, record, form)?;
         return Ok(true);
     }
-    if push_first_broken(alloc, text, record)? {
+    if push_first_broken(text, record, form)? {
         return Ok(true);
     }
     push_pairs(text, record)
@@ -342,7 +329,6 @@ fn push_misplaced(
 
 // Adds why a record behind the first of a message is wrong.
 fn push_in_message(
-    alloc: Global,
     text: &mut String,
     piece: &Records<'_>,
     index: usize,
@@ -359,7 +345,7 @@ fn push_in_message(
         return text.push_str("no record of a message has this name");
     }
     let has_minimums = index < piece.len() && field_at(&piece.record(0), 1) == "2";
-    if push_row(alloc, text, record, has_minimums)? {
+    if push_row(text, record, has_minimums)? {
         return Ok(());
     }
     push_misplaced(text, piece, index, record)
@@ -376,7 +362,6 @@ fn why_no_message(name: &str) -> &'static str {
 
 // Adds why a record of a piece is wrong.
 fn push_of_record(
-    alloc: Global,
     text: &mut String,
     piece: &Records<'_>,
     index: usize,
@@ -392,13 +377,13 @@ fn push_of_record(
         if !is_request(name) {
             return push_no_request(text, name);
         }
-        if push_row(alloc, text, record, true)? {
+        if push_row(text, record, true)? {
             return Ok(());
         }
         return text.push_str(why_no_message(name));
     }
     if index < piece.len() && field_at(&piece.record(0), 0) == "Message" {
-        return push_in_message(alloc, text, piece, index, record);
+        return push_in_message(text, piece, index, record);
     }
     if push_likeness(text, name)? {
         return Ok(());
@@ -409,7 +394,6 @@ fn push_of_record(
 /// Adds why a piece stops being a request at this row, counted from 1, where its records end at the
 /// latest.
 pub(crate) fn push_cause(
-    alloc: Global,
     text: &mut String,
     piece: &Records<'_>,
     row: u32,
@@ -417,7 +401,7 @@ pub(crate) fn push_cause(
     let index = (row as usize).saturating_sub(1);
     if index < piece.len() {
         let record = piece.record(index);
-        push_of_record(alloc, text, piece, index, &record)
+        push_of_record(text, piece, index, &record)
     } else if piece.is_empty() {
         text.push_str(" there is no record")
     } else {

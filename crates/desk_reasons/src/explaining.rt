@@ -95,7 +95,7 @@ fn push_query(alloc: Global, text: &mut String, target: &str) -> Result<(), Allo
 // What is said of the piece of these records.
 fn kept_of(alloc: Global, piece: &RecordBuffer, row: u32) -> Result<Kept, AllocError> {
     let mut cause = String::new(alloc);
-    push_cause(alloc, &mut cause, &piece.as_records(), row)?;
+    push_cause(&mut cause, &piece.as_records(), row)?;
     let count = piece.len();
     Ok(Kept { cause, row, count })
 }

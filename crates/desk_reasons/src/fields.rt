@@ -1,6 +1,5 @@
 //! What the fields of a record have to be.
 
-use crate::isbn_of_ten::{has_ten_digits, is_isbn_of_ten, push_thirteen};
 use onix_terms::amount::Amount;
 use onix_terms::code::{Code2, Country, Currency};
 use onix_terms::day::Day;
@@ -9,7 +8,6 @@ use onix_terms::isbn13::Isbn13;
 use onix_terms::number::Number;
 use onix_terms::quantity::Quantity;
 use onix_terms::series_name::SeriesName;
-use std::alloc::AllocError;
 
 /// What a field holds.
 #[derive(Clone, Copy, PartialEq, Eq)]
@@ -38,24 +36,6 @@ pub(crate) struct Field {
     pub(crate) name: &'static str,
     pub(crate) kind: Kind,
     pub(crate) may_be_empty: bool,
-}
-
-/// A field that has to be there.
-pub(crate) fn needed(name: &'static str, kind: Kind) -> Field {
-    Field {
-        name,
-        kind,
-        may_be_empty: false,
-    }
-}
-
-/// A field that may be empty.
-pub(crate) fn optional(name: &'static str, kind: Kind) -> Field {
-    Field {
-        name,
-        kind,
-        may_be_empty: true,
-    }
 }
 
 // Whether each word between spaces is a country.
@@ -120,83 +100,44 @@ fn count_digits(text: &str) -> usize {
     text.bytes().filter(|byte| byte.is_ascii_digit()).count()
 }
 
-/// Adds what is usual for a field of that kind, and what to do, where the text shows it; else
-/// nothing.
-pub(crate) fn push_hint(text: &mut String, kind: Kind, value: &str) -> Result<(), AllocError> {
-    if kind == Kind::Isbn && is_isbn_of_ten(value) {
-        text.push_str("; this is an ISBN of ten digits; that of thirteen is ")?;
-        return push_thirteen(text, value);
-    }
-    text.push_str(hint(kind, value))
+// Whether a text has ten digits, or nine and an X.
+fn has_ten_digits(text: &str) -> bool {
+    let nine = text.strip_suffix(['X', 'x']);
+    nine.is_some_and(|front| count_digits(front) == 9) || count_digits(text) == 10
 }
 
-// The same, where what to do is not made of the text.
-fn hint(kind: Kind, text: &str) -> &'static str {
+/// What is usual for a field of that kind, and what to do, where the text shows it; else nothing.
+pub(crate) fn hint(kind: Kind, text: &str) -> &'static str {
+    let digits = count_digits(text);
     match kind {
-        Kind::Isbn => hint_of_isbn(text),
-        Kind::Day => hint_of_day(text),
-        Kind::Country | Kind::Currency | Kind::Countries => hint_of_letters(text),
-        Kind::Code => hint_of_code(text),
-        Kind::Amount => hint_of_amount(text),
-        Kind::Series => hint_of_series(text),
-        Kind::FirstNumber =>
-            "; it is the MessageNumber of the first message that the sender sends, 1 as a rule",
+        Kind::Isbn if digits == 13 => "; leave out hyphens and spaces",
+        Kind::Isbn if has_ten_digits(text) => {
+            "; this looks like an ISBN of ten digits; write that of thirteen"
+        }
+        Kind::Day if digits == 8 && text.len() > 8 => {
+            "; leave out what is between the digits, and put the year first"
+        }
+        Kind::Country | Kind::Currency | Kind::Countries if has_small(text) => {
+            "; write capital letters"
+        }
+        Kind::Countries if text.contains([',', ';']) => "; put spaces between them",
+        Kind::Code if text == "GLN" => "; the code of a GLN is 06",
+        Kind::Code if digits == 1 && text.len() == 1 => {
+            "; a spreadsheet may have taken the 0 at its front"
+        }
+        Kind::Amount if text.contains(',') => "; write a point, and no comma",
+        Kind::Series if text.bytes().any(|byte| byte.is_ascii_uppercase()) => {
+            "; write small letters"
+        }
+        Kind::Series if text.contains([' ', '_']) => "; write - in place of a space",
+        Kind::FirstNumber => {
+            "; it is the MessageNumber of the first message that the sender sends, 1 as a rule"
+        }
         _ => "",
     }
 }
 
-fn hint_of_isbn(text: &str) -> &'static str {
-    if count_digits(text) == 13 {
-        "; leave out hyphens and spaces"
-    } else if has_ten_digits(text) {
-        "; this looks like an ISBN of ten digits, one of which is wrong; write that of thirteen"
-    } else {
-        ""
-    }
-}
-
-fn hint_of_day(text: &str) -> &'static str {
-    if count_digits(text) == 8 && text.len() > 8 {
-        "; leave out what is between the digits, and put the year first"
-    } else {
-        ""
-    }
-}
-
-fn hint_of_letters(text: &str) -> &'static str {
-    if text.bytes().any(|byte| byte.is_ascii_lowercase()) {
-        "; write capital letters"
-    } else if text.contains(',') || text.contains(';') {
-        "; put spaces between them"
-    } else {
-        ""
-    }
-}
-
-fn hint_of_code(text: &str) -> &'static str {
-    if text == "GLN" {
-        "; the code of a GLN is 06"
-    } else if count_digits(text) == 1 && text.len() == 1 {
-        "; a spreadsheet may have taken the 0 at its front"
-    } else {
-        ""
-    }
-}
-
-fn hint_of_amount(text: &str) -> &'static str {
-    if text.contains(',') {
-        "; write a point, and no comma"
-    } else {
-        ""
-    }
-}
-
-fn hint_of_series(text: &str) -> &'static str {
-    if text.bytes().any(|byte| byte.is_ascii_uppercase()) {
-        "; write small letters"
-    } else if text.contains(' ') || text.contains('_') {
-        "; write - in place of a space"
-    } else {
-        ""
-    }
+// Whether a text has a small letter.
+fn has_small(text: &str) -> bool {
+    text.bytes().any(|byte| byte.is_ascii_lowercase())
 }

@@ -1,9 +1,9 @@
 //! Why a text that a desk is given has no request, in words.
 //!
 //! `explaining` makes a line for each request that is malformed, while its records are in hand:
-//! `rows` has the fields of each record by their names, `fields` what each has to be, `isbn_of_ten`
-//! an ISBN of ten digits as one of thirteen, `causes` the words, and `lines` the line of the text on
-//! which each record begins. `questions` does the same for a question over HTTP.
+//! `rows` has the fields of each record by their names, `fields` what each has to be, `causes` the
+//! words, and `lines` the line of the text on which each record begins. `questions` does the same for
+//! a question over HTTP.
 //!
 //! What is written decides no answer. It is proved to be safe and to end, and is tested in its
 //! words.
@@ -12,7 +12,6 @@
 mod causes;
 pub mod explaining;
 mod fields;
-mod isbn_of_ten;
 mod lines;
 mod questions;
 mod rows;

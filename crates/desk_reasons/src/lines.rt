@@ -18,38 +18,12 @@ enum Place {
 // Where the reading stands behind a byte that ends no record.
 fn next_place(place: Place, byte: u8) -> Place {
     match place {
-        Place::Quoted => {
-            if byte == b'"' {
-                Place::MaybeClosed
-            } else {
-                Place::Quoted
-            }
-        }
-        Place::Between | Place::FieldStart => {
-            if byte == b'"' {
-                Place::Quoted
-            } else if byte == b',' {
-                Place::FieldStart
-            } else {
-                Place::Plain
-            }
-        }
-        Place::MaybeClosed => {
-            if byte == b'"' {
-                Place::Quoted
-            } else if byte == b',' {
-                Place::FieldStart
-            } else {
-                Place::Plain
-            }
-        }
-        Place::Plain => {
-            if byte == b',' {
-                Place::FieldStart
-            } else {
-                Place::Plain
-            }
-        }
+        Place::Quoted if byte == b'"' => Place::MaybeClosed,
+        Place::Quoted => Place::Quoted,
+        Place::Plain if byte == b'"' => Place::Plain,
+        _ if byte == b'"' => Place::Quoted,
+        _ if byte == b',' => Place::FieldStart,
+        _ => Place::Plain,
     }
 }
 

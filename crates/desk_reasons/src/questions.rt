@@ -1,9 +1,9 @@
 //! Why a question over HTTP is a bad query, in words.
 
 use crate::causes::push_broken;
-use crate::fields::{Field, Kind, needed, optional, takes};
+use crate::fields::{Field, Kind, takes};
+use crate::rows::keys_of;
 use form_urlencoded::parse;
-use onix_terms::items::Items;
 use std::alloc::{AllocError, Global};
 use std::borrow::CowStr;
 
@@ -11,26 +11,6 @@ use std::borrow::CowStr;
 fn question_in(path: &str) -> (&str, &str) {
     let article = path.strip_prefix("/articles/").unwrap_or(path);
     article.split_once('/').unwrap_or((article, ""))
-}
-
-// The keys of a question, in the order in which the desk reads them. Those that may be missing are
-// the ones that may be empty. None where nothing is asked so.
-fn keys_of(alloc: Global, question: &str) -> Result<Items<Field>, AllocError> {
-    let mut keys = Items::new(alloc);
-    let first = match question {
-        "price" | "choice" => "day",
-        "calendar" => "from",
-        _ => return Ok(keys),
-    };
-    keys.push(needed(first, Kind::Day))?;
-    keys.push(needed("country", Kind::Country))?;
-    keys.push(needed("currency", Kind::Currency))?;
-    keys.push(needed("type", Kind::Code))?;
-    keys.push(optional("quantity", Kind::Quantity))?;
-    if question == "calendar" {
-        keys.push(needed("to", Kind::Day))?;
-    }
-    Ok(keys)
 }
 
 // The names and values of a query.
@@ -53,7 +33,10 @@ fn push_wrong(
     count: usize,
     value: &str,
 ) -> Result<bool, AllocError> {
-    let given = needed(key.name, key.kind);
+    let given = Field {
+        may_be_empty: false,
+        ..key
+    };
     if count > 1 {
         write!(text, "{} is given {count} times", key.name)?;
         Ok(true)
@@ -96,14 +79,17 @@ pub(crate) fn push_question(
 ) -> Result<bool, AllocError> {
     let (path, query) = target.split_once('?').unwrap_or((target, ""));
     let (article, question) = question_in(path);
-    let isbn = needed("the article", Kind::Isbn);
+    let isbn = Field {
+        name: "the article",
+        kind: Kind::Isbn,
+        may_be_empty: false,
+    };
     if !takes(isbn, article) {
         push_broken(text, isbn, article)?;
         return Ok(true);
     }
-    let keys = keys_of(alloc, question)?;
     let pairs = pairs_of(alloc, query)?;
-    for key in keys.as_slice() {
+    for key in keys_of(question) {
         if push_key(text, *key, pairs.as_slice())? {
             return Ok(true);
         }

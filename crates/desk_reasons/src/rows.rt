@@ -1,153 +1,129 @@
-//! The records of requests and of messages, by their names, and the names of their fields.
+//! The records of requests and of messages, and the keys of queries: the names of their fields, and
+//! what each has to be.
 
-use crate::fields::{Field, Kind, needed, optional};
-use onix_terms::items::Items;
-use std::alloc::{AllocError, Global};
+use crate::fields::{Field, Kind};
 
-/// How many fields a record may have behind its name.
+// Whether a field may be empty.
+const NEEDED: bool = false;
+
+const OPTIONAL: bool = true;
+
+// Fields, each by its name, what it has to be, and whether it may be empty.
+macro_rules! fields {
+    ($($name:literal: $kind:ident $may_be_empty:ident),* $(,)?) => {
+        [$(Field { name: $name, kind: Kind::$kind, may_be_empty: $may_be_empty }),*]
+    };
+}
+
+static AGREE: [Field; 6] = fields! {
+    "Series": Series NEEDED, "SenderIDType": Code NEEDED, "SenderIDValue": Filled NEEDED,
+    "AddresseeIDType": Code OPTIONAL, "AddresseeIDValue": Anything OPTIONAL,
+    "FirstNumber": FirstNumber NEEDED,
+};
+
+static WAIVE: [Field; 2] = fields! { "Series": Series NEEDED, "Number": Number NEEDED };
+
+static SERIES: [Field; 1] = fields! { "Series": Series NEEDED };
+
+static PRICE_QUESTION: [Field; 6] = fields! {
+    "Article": Isbn NEEDED, "Day": Day NEEDED, "Country": Country NEEDED,
+    "Currency": Currency NEEDED, "PriceType": Code NEEDED, "Quantity": Quantity NEEDED,
+};
+
+static CALENDAR_QUESTION: [Field; 7] = fields! {
+    "Article": Isbn NEEDED, "FirstDay": Day NEEDED, "LastDay": Day NEEDED,
+    "Country": Country NEEDED, "Currency": Currency NEEDED, "PriceType": Code NEEDED,
+    "Quantity": Quantity NEEDED,
+};
+
+static PRICE_QUERY: [Field; 5] = fields! {
+    "day": Day NEEDED, "country": Country NEEDED, "currency": Currency NEEDED,
+    "type": Code NEEDED, "quantity": Quantity OPTIONAL,
+};
+
+static CALENDAR_QUERY: [Field; 6] = fields! {
+    "from": Day NEEDED, "country": Country NEEDED, "currency": Currency NEEDED,
+    "type": Code NEEDED, "quantity": Quantity OPTIONAL, "to": Day NEEDED,
+};
+
+static MESSAGE: [Field; 10] = fields! {
+    "Form": Form NEEDED, "SenderIDType": Code NEEDED, "SenderIDValue": Filled NEEDED,
+    "AddresseeIDType": Code OPTIONAL, "AddresseeIDValue": Anything OPTIONAL,
+    "MessageNumber": Number OPTIONAL, "MessageRepeat": Digits OPTIONAL,
+    "SentDateTime": Anything OPTIONAL, "DefaultPriceType": Code OPTIONAL,
+    "DefaultCurrencyCode": Currency OPTIONAL,
+};
+
+static PRODUCT: [Field; 4] = fields! {
+    "RecordReference": Filled NEEDED, "NotificationType": Code NEEDED,
+    "ProductIDType": Code NEEDED, "IDValue": Filled NEEDED,
+};
+
+static SUPPLY: [Field; 3] = fields! {
+    "CountriesIncluded": Countries OPTIONAL, "RegionsIncluded": World OPTIONAL,
+    "CountriesExcluded": Countries OPTIONAL,
+};
+
+static DETAIL: [Field; 6] = fields! {
+    "SupplierRole": Code NEEDED, "SupplierIDType": Code OPTIONAL,
+    "SupplierIDValue": Anything OPTIONAL, "SupplierName": Anything OPTIONAL,
+    "ProductAvailability": Code NEEDED, "UnpricedItemType": Code OPTIONAL,
+};
+
+static PRICE: [Field; 9] = fields! {
+    "PriceType": Code OPTIONAL, "PriceAmount": Amount NEEDED, "CurrencyCode": Currency OPTIONAL,
+    "CountriesIncluded": Countries OPTIONAL, "RegionsIncluded": World OPTIONAL,
+    "CountriesExcluded": Countries OPTIONAL, "From": Day OPTIONAL, "Until": Day OPTIONAL,
+    "MinimumOrderQuantity": Quantity OPTIONAL,
+};
+
+static END: [Field; 1] = fields! { "Count": Digits NEEDED };
+
+/// What a record of a name has behind it: fields in order, of which the first so many have to be
+/// there. In form 1 a Price has no MinimumOrderQuantity; a Product may have the last two of its
+/// fields again and again.
 #[derive(Clone, Copy)]
-pub(crate) struct Counts {
+pub(crate) struct Form {
+    pub(crate) fields: &'static [Field],
     pub(crate) least: usize,
     pub(crate) most: usize,
 }
 
-// The fields of a question about prices behind its article and its days.
-fn push_terms(fields: &mut Items<Field>) -> Result<(), AllocError> {
-    fields.push(needed("Country", Kind::Country))?;
-    fields.push(needed("Currency", Kind::Currency))?;
-    fields.push(needed("PriceType", Kind::Code))?;
-    fields.push(needed("Quantity", Kind::Quantity))
-}
-
-fn push_territory(fields: &mut Items<Field>) -> Result<(), AllocError> {
-    fields.push(optional("CountriesIncluded", Kind::Countries))?;
-    fields.push(optional("RegionsIncluded", Kind::World))?;
-    fields.push(optional("CountriesExcluded", Kind::Countries))
-}
-
-fn push_parties(fields: &mut Items<Field>) -> Result<(), AllocError> {
-    fields.push(needed("SenderIDType", Kind::Code))?;
-    fields.push(needed("SenderIDValue", Kind::Filled))?;
-    fields.push(optional("AddresseeIDType", Kind::Code))?;
-    fields.push(optional("AddresseeIDValue", Kind::Anything))
-}
-
-fn push_header(fields: &mut Items<Field>) -> Result<(), AllocError> {
-    fields.push(needed("Form", Kind::Form))?;
-    push_parties(fields)?;
-    fields.push(optional("MessageNumber", Kind::Number))?;
-    fields.push(optional("MessageRepeat", Kind::Digits))?;
-    fields.push(optional("SentDateTime", Kind::Anything))?;
-    fields.push(optional("DefaultPriceType", Kind::Code))?;
-    fields.push(optional("DefaultCurrencyCode", Kind::Currency))
-}
-
-fn push_detail(fields: &mut Items<Field>) -> Result<(), AllocError> {
-    fields.push(needed("SupplierRole", Kind::Code))?;
-    fields.push(optional("SupplierIDType", Kind::Code))?;
-    fields.push(optional("SupplierIDValue", Kind::Anything))?;
-    fields.push(optional("SupplierName", Kind::Anything))?;
-    fields.push(needed("ProductAvailability", Kind::Code))?;
-    fields.push(optional("UnpricedItemType", Kind::Code))
-}
-
-fn push_price(fields: &mut Items<Field>) -> Result<(), AllocError> {
-    fields.push(optional("PriceType", Kind::Code))?;
-    fields.push(needed("PriceAmount", Kind::Amount))?;
-    fields.push(optional("CurrencyCode", Kind::Currency))?;
-    push_territory(fields)?;
-    fields.push(optional("From", Kind::Day))?;
-    fields.push(optional("Until", Kind::Day))?;
-    fields.push(optional("MinimumOrderQuantity", Kind::Quantity))
-}
-
-// The fields of a product with so many of them behind its name.
-fn push_product(fields: &mut Items<Field>, count: usize) -> Result<(), AllocError> {
-    fields.push(needed("RecordReference", Kind::Filled))?;
-    fields.push(needed("NotificationType", Kind::Code))?;
-    for place in 2..count {
-        if place % 2 == 0 {
-            fields.push(needed("ProductIDType", Kind::Code))?;
-        } else {
-            fields.push(needed("IDValue", Kind::Filled))?;
-        }
-    }
-    Ok(())
-}
-
-fn push_agreement(fields: &mut Items<Field>) -> Result<(), AllocError> {
-    fields.push(needed("Series", Kind::Series))?;
-    push_parties(fields)?;
-    fields.push(needed("FirstNumber", Kind::FirstNumber))
-}
-
-fn push_waiver(fields: &mut Items<Field>) -> Result<(), AllocError> {
-    fields.push(needed("Series", Kind::Series))?;
-    fields.push(needed("Number", Kind::Number))
-}
-
-fn push_price_question(fields: &mut Items<Field>) -> Result<(), AllocError> {
-    fields.push(needed("Article", Kind::Isbn))?;
-    fields.push(needed("Day", Kind::Day))?;
-    push_terms(fields)
-}
-
-fn push_calendar_question(fields: &mut Items<Field>) -> Result<(), AllocError> {
-    fields.push(needed("Article", Kind::Isbn))?;
-    fields.push(needed("FirstDay", Kind::Day))?;
-    fields.push(needed("LastDay", Kind::Day))?;
-    push_terms(fields)
-}
-
-// The fields of a record of a request; none where its name is that of no request.
-fn push_request(fields: &mut Items<Field>, name: &str) -> Result<(), AllocError> {
-    match name {
-        "Agree" => push_agreement(fields),
-        "Waive" => push_waiver(fields),
-        "AskPrice" | "AskChoice" => push_price_question(fields),
-        "AskCalendar" => push_calendar_question(fields),
-        "AskGaps" | "AskCatalogue" => fields.push(needed("Series", Kind::Series)),
-        _ => Ok(()),
-    }
-}
-
-/// The fields of a record of this name, which has so many of them behind it, in order; none where
-/// no record has the name. Those that a record may leave out at its end are among them.
-pub(crate) fn fields_of(
-    alloc: Global,
-    name: &str,
-    count: usize,
-) -> Result<Items<Field>, AllocError> {
-    let mut fields = Items::new(alloc);
-    match name {
-        "Message" => push_header(&mut fields)?,
-        "Product" => push_product(&mut fields, count)?,
-        "ProductSupply" => push_territory(&mut fields)?,
-        "SupplyDetail" => push_detail(&mut fields)?,
-        "Price" => push_price(&mut fields)?,
-        "EndMessage" => fields.push(needed("Count", Kind::Digits))?,
-        _ => push_request(&mut fields, name)?,
-    }
-    Ok(fields)
-}
-
-/// How many fields a record of this name may have behind it; in form 1 a Price has no
-/// MinimumOrderQuantity.
-pub(crate) fn counts_of(name: &str, has_minimums: bool) -> Counts {
-    let (least, most) = match name {
-        "Message" => (10, 10),
-        "Product" => (4, usize::MAX),
-        "ProductSupply" => (3, 3),
-        "SupplyDetail" => (6, 6),
-        "Price" => (8, if has_minimums { 9 } else { 8 }),
-        "EndMessage" | "AskGaps" | "AskCatalogue" => (1, 1),
-        "Agree" => (6, 6),
-        "Waive" => (2, 2),
-        "AskPrice" | "AskChoice" => (5, 6),
-        "AskCalendar" => (6, 7),
-        _ => (0, usize::MAX),
+/// The form of the records of a name; none where no record has it.
+pub(crate) fn form_of(name: &str, has_minimums: bool) -> Option<Form> {
+    let (fields, least) = match name {
+        "Agree" => (&AGREE[..], 6),
+        "Waive" => (&WAIVE[..], 2),
+        "AskPrice" | "AskChoice" => (&PRICE_QUESTION[..], 5),
+        "AskCalendar" => (&CALENDAR_QUESTION[..], 6),
+        "AskGaps" | "AskCatalogue" => (&SERIES[..], 1),
+        "Message" => (&MESSAGE[..], 10),
+        "Product" => (&PRODUCT[..], 4),
+        "ProductSupply" => (&SUPPLY[..], 3),
+        "SupplyDetail" => (&DETAIL[..], 6),
+        "Price" => (&PRICE[..], 8),
+        "EndMessage" => (&END[..], 1),
+        _ => return None,
     };
-    Counts { least, most }
+    let most = match name {
+        "Product" => usize::MAX,
+        "Price" if !has_minimums => 8,
+        _ => fields.len(),
+    };
+    Some(Form {
+        fields,
+        least,
+        most,
+    })
+}
+
+impl Form {
+    /// The field at a place behind the name, of which the first is 0.
+    pub(crate) fn field(&self, place: usize) -> Option<Field> {
+        let count = self.fields.len();
+        let at = if place < count { place } else { 2 + place % 2 };
+        self.fields.get(at).copied()
+    }
 }
 
 /// Whether a record of this name is one of a message.
@@ -160,5 +136,15 @@ pub(crate) fn is_of_message(name: &str) -> bool {
 
 /// Whether a record of this name is a request, or begins one.
 pub(crate) fn is_request(name: &str) -> bool {
-    name == "Message" || (counts_of(name, true).least > 0 && !is_of_message(name))
+    name == "Message" || (form_of(name, true).is_some() && !is_of_message(name))
+}
+
+/// The keys of a question over HTTP, in the order in which the desk reads them. Those that may be
+/// missing are the ones that may be empty. None where nothing is asked so.
+pub(crate) fn keys_of(question: &str) -> &'static [Field] {
+    match question {
+        "price" | "choice" => &PRICE_QUERY[..],
+        "calendar" => &CALENDAR_QUERY[..],
+        _ => &[],
+    }
 }

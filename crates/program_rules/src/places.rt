@@ -1,28 +1,5 @@
-//! What is wrong with an item of an array of tables in a TOML text, and in which line it stands, as
-//! far as the lines show it.
-
-use std::io::Write;
-use toml::Table;
-
-/// What is wrong with an item.
-#[derive(Clone, Copy)]
-pub(crate) enum Cause<'a> {
-    /// The item itself: it is none, or lacks a key.
-    Item(&'static str),
-    /// What stands at this key of it.
-    Key(&'static str, &'static str),
-    /// It has this key, which none has.
-    Other(&'a str, &'static str),
-}
-
-/// What is wrong with an item at a key of it, or with the item where it lacks the key.
-pub(crate) fn cause_at(table: &Table, key: &'static str, said: &'static str) -> Cause<'static> {
-    if table.get(key).is_some() {
-        Cause::Key(key, said)
-    } else {
-        Cause::Item(said)
-    }
-}
+//! In which line of a TOML text an item of an array of tables stands, and a key of it, as far as the
+//! lines show it.
 
 /// The line in which the byte at that place stands, counted from 1.
 pub(crate) fn line_at(text: &[u8], place: usize) -> usize {
@@ -89,9 +66,9 @@ fn heads(text: &str, array: &str, number: usize) -> (usize, Option<usize>) {
     (count, found)
 }
 
-// The line of the item at a number of an array that has so many: that of its head, or that of the
-// key if the items have no heads. None if a text in quotation marks has such lines too.
-fn line_of_item(text: &str, array: &str, items: usize, number: usize) -> Option<usize> {
+/// The line of the item at a number of an array that has so many: that of its head, or that of the
+/// key if the items have no heads. None if a text in quotation marks has such lines too.
+pub(crate) fn line_of_item(text: &str, array: &str, items: usize, number: usize) -> Option<usize> {
     match heads(text, array, number) {
         (0, _) => line_of_key(text, array),
         (count, found) if count == items => found,
@@ -118,54 +95,11 @@ fn line_below(text: &str, head: usize, key: &str) -> Option<usize> {
     None
 }
 
-/// The line of what is wrong with the item at a number of an array that has so many: that of its
-/// key, or of the item.
-pub(crate) fn line_of_cause(
-    text: &str,
-    array: &str,
-    items: usize,
-    number: usize,
-    cause: Cause<'_>,
-) -> Option<usize> {
-    let head = line_of_item(text, array, items, number)?;
-    let below = match cause {
-        Cause::Item(_) => None,
-        Cause::Key(key, _) => line_below(text, head, key),
-        Cause::Other(key, _) => line_below(text, head, key),
-    };
-    Some(below.unwrap_or(head))
-}
-
-/// Writes the number of a line, where it is known.
-pub(crate) fn write_line<E: Write>(line: Option<usize>, errors: &mut E) {
-    if let Some(line) = line {
-        let _ = write!(errors, "line {line}: ");
-    }
-}
-
-// Whether a key may stand without quotation marks.
-fn is_bare(key: &str) -> bool {
-    key.bytes().all(|byte| byte.is_ascii_alphanumeric() || byte == b'-' || byte == b'_')
-}
-
-/// Writes the end of a line that names a key that is none, unless it has to be in quotation marks.
-pub(crate) fn write_key<E: Write>(key: &str, errors: &mut E) {
-    let _ = if is_bare(key) {
-        write!(errors, ": {key}\n")
-    } else {
-        write!(errors, "\n")
-    };
-}
-
-/// Writes what is wrong with an item, to the end of the line.
-pub(crate) fn write_said<E: Write>(cause: Cause<'_>, errors: &mut E) {
-    match cause {
-        Cause::Item(said) | Cause::Key(_, said) => {
-            let _ = write!(errors, "{said}\n");
-        }
-        Cause::Other(key, said) => {
-            let _ = write!(errors, "{said}");
-            write_key(key, errors);
-        }
+/// The line of a key of the item that begins at a line: that of the item where none is meant, or none
+/// is found.
+pub(crate) fn line_of_key_in(text: &str, head: usize, key: Option<&str>) -> usize {
+    match key {
+        Some(key) => line_below(text, head, key).unwrap_or(head),
+        None => head,
     }
 }

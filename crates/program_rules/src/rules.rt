@@ -5,7 +5,7 @@ ghost use Rattle.csv_records.specs.RecordTexts.{limit};
 ghost use Rattle.csv_records.specs.Streams.{InputFits};
 ghost use Rattle.program_rules.specs.RulesFile.{ReadsTable, RulesFit, status_of};
 
-use crate::rules_faults::write_cause;
+use crate::faults::{File, write_fault};
 use crate::unread::read_text;
 use csv_records::streams::InputFault;
 use price_rules::precedence::{Precedence, PrecedenceFault};
@@ -73,22 +73,22 @@ fn report_text<E: Write>(
     alloc: Global,
     name: &str,
     text: &[u8],
-    fault: &RulesFault,
+    fault: &PrecedenceFault,
     is_option: bool,
     errors: &mut E,
 ) {
-    match fault {
-        RulesFault::Table(PrecedenceFault::Memory) => {
+    let number = match fault {
+        PrecedenceFault::BadRule { index } => Some(*index as usize),
+        PrecedenceFault::NotToml => None,
+        PrecedenceFault::Memory => {
             report(&Fault::Memory, errors);
+            return;
         }
-        RulesFault::Table(fault) => {
-            if is_option {
-                report_fault(fault, errors);
-            }
-            write_cause(alloc, name, text, fault, errors);
-        }
-        RulesFault::Unreadable => {}
+    };
+    if is_option {
+        report_fault(fault, errors);
     }
+    write_fault(alloc, File::Rules(name), text, number, errors);
 }
 
 /// Reads the table in the file of this name. If there is none, or the file cannot be read, that is
@@ -109,7 +109,7 @@ pub fn open_table<F: NamedFiles, E: Write>(
         Err(fault) => return Err(report_unread(fault, name, is_option, errors)),
     };
     let read = table_of(alloc, text.as_slice());
-    if let Err(fault) = &read {
+    if let Err(RulesFault::Table(fault)) = &read {
         report_text(alloc, name, text.as_slice(), fault, is_option, errors);
     }
     read

@@ -79,8 +79,8 @@ def files(room: Room) -> Iterator[Outcome]:
 
 # What is wrong in files, by the words that name one of them `pipe`, and how the last line on it begins.
 PIPED = {
-    ("--rules", "pipe", "batch"): (b'[[rule]]\nserie = "*"\n', 2, "pipe: line 2: rule 1 "),
-    ("rules", "pipe"): (b"rule = 1\n", 2, "pipe: line 1: rule is no array"),
+    ("--rules", "pipe", "batch"): (b'[[rule]]\nserie = "*"\n', 2, "pipe: line 2: rule 1: "),
+    ("rules", "pipe"): (b"rule = 1\n", 2, "pipe: line 1: rule is not an array"),
     ("terms", "pipe"): (b"term = 1\n", 2, "terms: not TOML: line 1: "),
     ("convert", "--terms", "pipe"): (b"\nterm = 1\n", 2, "terms: not TOML: line 2: "),
     ("deliver", "pipe"): (b"\n<ONIXMessage>", 1, "pipe: line 2: <ONIXMessage>: "),

@@ -79,6 +79,23 @@ static PRICE: [Field; 9] = fields! {
 
 static END: [Field; 1] = fields! { "Count": Digits NEEDED };
 
+/// The names of all records.
+pub(crate) const NAMES: [&str; 13] = [
+    "Agree",
+    "Message",
+    "Waive",
+    "AskPrice",
+    "AskChoice",
+    "AskCalendar",
+    "AskGaps",
+    "AskCatalogue",
+    "Product",
+    "ProductSupply",
+    "SupplyDetail",
+    "Price",
+    "EndMessage",
+];
+
 /// What a record of a name has behind it: fields in order, of which the first so many have to be
 /// there. In form 1 a Price has no MinimumOrderQuantity; a Product may have the last two of its
 /// fields again and again.
@@ -132,11 +149,6 @@ pub(crate) fn is_of_message(name: &str) -> bool {
         name,
         "Message" | "Product" | "ProductSupply" | "SupplyDetail" | "Price" | "EndMessage"
     )
-}
-
-/// Whether a record of this name is a request, or begins one.
-pub(crate) fn is_request(name: &str) -> bool {
-    name == "Message" || (form_of(name, true).is_some() && !is_of_message(name))
 }
 
 /// The keys of a question over HTTP, in the order in which the desk reads them. Those that may be

@@ -50,7 +50,7 @@ fn words_of_header(refusal: HeaderRefusal) -> &'static str {
         HeaderRefusal::WrongNumber => "MessageNumber .. is none; --number N gives one",
         HeaderRefusal::NumberTooGreat => "MessageNumber .. and --number-offset exceed 999999999",
         HeaderRefusal::LastNumberTooGreat => "the number of its last part exceeds 999999999",
-        HeaderRefusal::Malformed => "a Header that the desk would not take: ..",
+        HeaderRefusal::Malformed => "a Header that the desk would call malformed: ..",
     }
 }
 

@@ -88,8 +88,8 @@ fn write_item<E: Write>(kind: Kind, item: &Table, errors: &mut E) {
         }
     }
     for (key, is_needed, words) in kind.keys() {
-        let is_right = match item.get(key) {
-            Some(value) => kind.is_right(item, key, value),
+        let is_right = match item.get(*key) {
+            Some(value) => kind.is_right(item, *key, value),
             None => !*is_needed,
         };
         if !is_right {

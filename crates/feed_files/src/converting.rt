@@ -58,7 +58,7 @@ fn report_unread<E: Write>(alloc: Global, known: &RefusedFile<'_>, errors: &mut 
     match known.unread {
         Some(fault) => report_fault(alloc, fault, errors),
         None => {
-            let fault = FileFault::new(alloc, known.notes.file(), "cannot be read");
+            let fault = FileFault::new(alloc, known.file, "cannot be read");
             report_fault(alloc, &fault, errors)
         }
     }
@@ -152,6 +152,7 @@ fn end_of_seen<E: Write>(
     ensures err { IfErr read (λ f. IsUnconverted f result) }
 {
     let known = RefusedFile {
+        file: notes.scope.file,
         options,
         notes,
         unread: &unread,
@@ -162,7 +163,7 @@ fn end_of_seen<E: Write>(
 // Counts a FILE that was converted.
 fn end_notes(notes: &mut Notes<'_>, read: &Result<Counted, Fault>) {
     if let Ok(told) = read {
-        notes.end(*told);
+        notes.summary.count_file(*told, notes.has_products);
     }
 }
 

@@ -1,4 +1,4 @@
-//! What the summary counts of a Header or a Product beside its notes.
+//! What the summary counts of a Product beside its notes.
 
 use crate::doublets::field;
 use crate::reasons::is_emptied;
@@ -74,8 +74,12 @@ fn comes_again(element: &Node<'_>) -> bool {
     }
 }
 
-// How many of the elements come again, and of those in what is read of them: one of them is not.
-fn count_again(named: Option<Pair<'_>>, elements: &Elements<'_>, is_deletion: bool) -> u64 {
+/// How many of the elements come again, and of those in what is read of them: one of them is not.
+pub(crate) fn count_again(
+    named: Option<Pair<'_>>,
+    elements: &Elements<'_>,
+    is_deletion: bool,
+) -> u64 {
     let mut count = 0u64;
     let mut rest = elements.copy();
     while let Some(node) = rest.first() {
@@ -90,11 +94,6 @@ fn count_again(named: Option<Pair<'_>>, elements: &Elements<'_>, is_deletion: bo
         rest = node.rest;
     }
     count
-}
-
-/// Counts the elements in a Header that come again though they do not repeat.
-pub(crate) fn count_header(summary: &mut Summary, header: &Composite<'_>) {
-    summary.count(AGAIN, count_again(None, &header.below, false));
 }
 
 // What counts below a Product, by its name and those of what it stands in.

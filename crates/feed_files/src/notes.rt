@@ -1,13 +1,13 @@
 //! Notes on what is left out of the message of a FILE.
 
-use crate::counts::{count_header, count_product, is_of_others};
+use crate::counts::{count_again, count_product, is_of_others};
 use crate::doublets::count_doublets;
 use crate::reasons::{is_counted_alone, is_of_discount, is_of_product, push_fate, words_of};
 use crate::shown::{SHOWN, name_of_stranger, push_reason, push_value};
-use crate::summary::{DOUBLETS, Summary};
+use crate::summary::{AGAIN, DOUBLETS, Summary};
 use csv_records::buffer::RecordBuffer;
 use csv_records::fields::FieldBuffer;
-use feed_conversion::{Counted, Options};
+use feed_conversion::Options;
 use feed_mapping::{
     Choices, Composite, Note, ReasonKind, SupplyChoices, Wrong, add_product, first_reason,
     malformed_field, next_composite, read_heading, text_or_empty,
@@ -25,11 +25,11 @@ pub(crate) const PREFIX: &str = "onixdesk: ";
 // Those behind them are only counted.
 const MOST_LINES: u32 = 1_000;
 
-// The FILE that notes are on, what the caller chose, and whether there are terms of the shop.
+/// The FILE that notes are on, what the caller chose, and whether there are terms of the shop.
 #[derive(Clone, Copy)]
-struct Scope<'a> {
+pub(crate) struct Scope<'a> {
     alloc: Global,
-    file: &'a str,
+    pub(crate) file: &'a str,
     choices: &'a Choices<'a>,
     has_terms: bool,
 }
@@ -45,14 +45,14 @@ pub(crate) struct Lines {
 /// The notes on a FILE, kept until the whole of it was read.
 #[derive(Drop)]
 pub struct Notes<'a> {
-    scope: Scope<'a>,
+    pub(crate) scope: Scope<'a>,
     pub(crate) all: Lines,
     // Those on products that are wrong, with a bound of their own: they are told where the FILE is
     // refused for these.
     pub(crate) of_wrong: Lines,
     pub(crate) summary: Summary,
     // Whether there is a Product, or what says that there is none.
-    has_products: bool,
+    pub(crate) has_products: bool,
     // The field of the Header that the desk would not take, empty where it would take all.
     pub(crate) header: String,
     // The name of the first stranger in the root or in a Header, empty where there is none.
@@ -68,18 +68,6 @@ pub(crate) fn push_place(text: &mut String, file: &str, place: Position) -> Resu
     write!(text, ":{}:{}: ", place.line, place.column)
 }
 
-// The ProductSupply of a Product that stands at a place.
-fn supply_at<'a>(product: &Composite<'a>, place: Position) -> Option<Composite<'a>> {
-    let mut rest = product.below.copy();
-    while let Some((supply, behind)) = next_composite(b"ProductSupply", &rest) {
-        if supply.line.place == place {
-            return Some(supply);
-        }
-        rest = behind;
-    }
-    None
-}
-
 // Adds why the first is left out of what a ProductSupply has, where a note says that all of it is.
 fn push_first_reason(
     text: &mut String,
@@ -87,33 +75,20 @@ fn push_first_reason(
     product: &Composite<'_>,
     note: Note<'_>,
 ) -> Result<(), AllocError> {
-    let Some(supply) = supply_at(product, note.line.place) else {
-        return Ok(());
-    };
-    let kind = note.reason.kind;
-    let choices = scope.choices;
-    match first_reason(
-        scope.alloc,
-        choices.supplier,
-        choices.id_type,
-        kind,
-        &supply.below,
-    )? {
-        Some(first) => {
-            text.push_str(", the first for: ")?;
-            push_reason(text, words_of(first.kind), first.text)
+    let (choices, kind) = (scope.choices, note.reason.kind);
+    let mut rest = product.below.copy();
+    while let Some((supply, behind)) = next_composite(b"ProductSupply", &rest) {
+        if supply.line.place == note.line.place {
+            let (supplier, id_type) = (choices.supplier, choices.id_type);
+            let first = first_reason(scope.alloc, supplier, id_type, kind, &supply.below)?;
+            if let Some(first) = first {
+                text.push_str(", the first for: ")?;
+                push_reason(text, words_of(first.kind), first.text)?;
+            }
         }
-        None => Ok(()),
+        rest = behind;
     }
-}
-
-// What the feed has that a note on a product is about.
-fn value_of<'a>(product: &Composite<'a>, note: Note<'a>) -> &'a [u8] {
-    if note.reason.kind == ReasonKind::Wrong(Wrong::OtherNamespace) {
-        name_of_stranger(first_called(&product.below))
-    } else {
-        note.reason.text
-    }
+    Ok(())
 }
 
 // Adds the line of a note on a product.
@@ -126,17 +101,15 @@ fn push_line<'a>(
     push_place(text, scope.file, note.line.place)?;
     push_value(text, text_or_empty(b"RecordReference", &product.below))?;
     text.push_str(": ")?;
-    let value = value_of(product, note);
-    push_fate(text, note.line.name, note.reason.kind, value)?;
+    let kind = note.reason.kind;
+    let value = if kind == ReasonKind::Wrong(Wrong::OtherNamespace) {
+        name_of_stranger(first_called(&product.below))
+    } else {
+        note.reason.text
+    };
+    push_fate(text, note.line.name, kind, value)?;
     push_first_reason(text, scope, product, note)?;
     text.push_str("\n")
-}
-
-// Whether a line more may be written, which is then counted.
-fn has_room(count: &mut u32) -> bool {
-    let has_room = *count < MOST_LINES;
-    *count = count.saturating_add(u32::from(has_room));
-    has_room
 }
 
 impl Lines {
@@ -160,10 +133,11 @@ impl Lines {
         } else {
             &mut self.others
         };
-        if has_room(count) {
-            push_line(&mut self.text, scope, product, note)?;
+        if *count == MOST_LINES {
+            return Ok(());
         }
-        Ok(())
+        *count = count.saturating_add(1);
+        push_line(&mut self.text, scope, product, note)
     }
 }
 
@@ -240,7 +214,8 @@ impl<'a> Notes<'a> {
                 Err(_) => None,
             };
         }
-        count_header(&mut self.summary, header);
+        self.summary
+            .count(AGAIN, count_again(None, &header.below, false));
         self.notice_stranger(first_called(&header.below));
         if self.header.is_empty() {
             if let Some(found) = malformed_field(self.scope.choices, &header.below) {
@@ -302,15 +277,5 @@ impl<'a> Notes<'a> {
             self.add_note(product, *note, is_wrong)?;
         }
         Ok(())
-    }
-
-    /// Nothing follows in the FILE, of whose products this is told.
-    pub(crate) fn end(&mut self, told: Counted) {
-        self.summary.count_file(told, self.has_products);
-    }
-
-    /// The FILE that they are on.
-    pub(crate) fn file(&self) -> &'a str {
-        self.scope.file
     }
 }

@@ -17,6 +17,7 @@ const AGREED: &str =
 /// What is known of a FILE that was not converted, beside its fault.
 #[derive(Clone, Copy)]
 pub struct RefusedFile<'a> {
+    pub file: &'a str,
     pub options: &'a Options<'a>,
     /// The notes on what is left out of it.
     pub notes: &'a Notes<'a>,
@@ -182,7 +183,7 @@ pub(crate) fn push_refusal(
     known: &RefusedFile<'_>,
     fault: &Fault,
 ) -> Result<(), AllocError> {
-    let file = known.notes.file();
+    let file = known.file;
     match fault {
         Fault::Unread(fault, place, told) => {
             push_start(line, file, *place)?;

@@ -18,39 +18,33 @@ pub struct Progress<'a, C> {
     is_written: bool,
 }
 
-// The time from which on the line is written again.
-fn next_time<C: Clock>(clock: &C) -> Option<Instant> {
-    match Instant::now(clock) {
-        Ok(now) => now.checked_add(Duration::from_millis(MILLISECONDS)),
-        Err(_) => None,
-    }
-}
-
 impl<'a, C: Clock> Progress<'a, C> {
     /// No line yet, and whether one is shown.
     pub fn new(clock: &'a C, is_shown: bool) -> Progress<'a, C> {
         Progress {
             clock,
-            next: if is_shown { next_time(clock) } else { None },
+            next: if is_shown {
+                Instant::now(clock).ok()
+            } else {
+                None
+            },
             is_written: false,
-        }
-    }
-
-    // Whether it is time to write the line.
-    fn is_due(&self) -> bool {
-        match (self.next, Instant::now(self.clock)) {
-            (Some(next), Ok(now)) => next <= now,
-            _ => false,
         }
     }
 
     /// Shows how many bytes there were so far, where the line has stood for 0.2 seconds. The cursor
     /// is left at its front, so that what follows is written over it.
     pub fn show<E: Write>(&mut self, bytes: u64, errors: &mut E) {
-        if self.next.is_none() || !self.is_due() {
+        let Some(next) = self.next else {
+            return;
+        };
+        let Ok(now) = Instant::now(self.clock) else {
+            return;
+        };
+        if now < next {
             return;
         }
-        self.next = next_time(self.clock);
+        self.next = now.checked_add(Duration::from_millis(MILLISECONDS));
         self.is_written = true;
         let (whole, tenth) = (bytes / 1_000_000, bytes / 100_000 % 10);
         let _ = write!(errors, "{CLEAR}{whole}.{tenth} MB\r");

@@ -11,10 +11,9 @@ use crate::collected::Collected;
 use crate::ended::Ended;
 use crate::fault::write_fault;
 use crate::notes::{Notes, PREFIX};
-use crate::progress::{Progress, Showing, size_of};
 use crate::refusal::{RefusedFile, push_packed, push_refusal};
 use crate::summary::Summary;
-use crate::watched::{Seen, Watched};
+use crate::watched::{Showing, Watched};
 use feed_conversion::{Counted, Fault, Options, Outcome, convert};
 use program_files::{
     FileFault, MadeFiles, NamedFiles, PartFiles, STANDARD_INPUT, Spool, is_packed, name_of,
@@ -56,7 +55,7 @@ fn report_fault<E: Write>(alloc: Global, fault: &FileFault, errors: &mut E) -> E
 fn report_unread<E: Write>(alloc: Global, known: &RefusedFile<'_>, errors: &mut E) -> Ended
     ensures { result ≡ Ended.Fault }
 {
-    match &known.seen.fault {
+    match known.unread {
         Some(fault) => report_fault(alloc, fault, errors),
         None => {
             let fault = FileFault::new(alloc, known.file, "cannot be read");
@@ -139,11 +138,11 @@ fn end_of<E: Write>(
     }
 }
 
-// How a FILE ended of which this was seen and noted.
+// How a FILE ended of which this was seen and noted, and why a read failed, where one did.
 fn end_of_seen<E: Write>(
     alloc: Global,
     notes: &Notes<'_>,
-    seen: Seen,
+    unread: Option<FileFault>,
     options: &Options<'_>,
     read: Result<Counted, Fault>,
     kept: Option<FileFault>,
@@ -153,10 +152,10 @@ fn end_of_seen<E: Write>(
     ensures err { IfErr read (λ f. IsUnconverted f result) }
 {
     let known = RefusedFile {
-        file: notes.file(),
+        file: notes.scope.file,
         options,
-        seen: &seen,
         notes,
+        unread: &unread,
     };
     end_of(alloc, &known, &read, &kept, errors)
 }
@@ -164,15 +163,15 @@ fn end_of_seen<E: Write>(
 // Counts a FILE that was converted.
 fn end_notes(notes: &mut Notes<'_>, read: &Result<Counted, Fault>) {
     if let Ok(told) = read {
-        notes.end(*told);
+        notes.summary.count_file(*told, notes.has_products);
     }
 }
 
 // Writes the notes of a FILE that was converted, and counts them. Where memory runs out, the
 // summary counts less.
 fn tell<E: Write>(notes: &Notes<'_>, telling: &mut Telling<'_, E>) {
-    write_lines(notes.text(), telling.errors);
-    let _ = telling.summary.add_all(notes.summary());
+    write_lines(notes.all.text.as_str(), telling.errors);
+    let _ = telling.summary.add_all(&notes.summary);
 }
 
 // Converts a FILE to standard output.
@@ -195,18 +194,16 @@ fn convert_out<C: Clock, F: NamedFiles, R: Read, W: Write, E: Write>(
         notes: Notes::new(alloc, file, options),
         fault: None,
     };
-    let size = size_of(showing, files, file);
-    let progress = Progress::new(showing, &mut *telling.errors, file, size);
-    let mut watched = Watched::new(alloc, file, reader, progress);
+    let mut watched = Watched::new(showing, file, reader, &mut *telling.errors);
     let Outcome { target, ended } = convert(alloc, &mut watched, options, target);
-    let seen = watched.into_seen();
+    let unread = watched.into_fault();
     let Collected {
         store,
         mut notes,
         fault,
     } = target;
     end_notes(&mut notes, &ended);
-    let ended = end_of_seen(alloc, &notes, seen, options, ended, fault, telling.errors);
+    let ended = end_of_seen(alloc, &notes, unread, options, ended, fault, telling.errors);
     if !ended.is_converted() {
         return ended;
     }
@@ -258,11 +255,9 @@ fn convert_into<C: Clock, F: NamedFiles, R: Read, E: Write>(
         notes: Notes::new(alloc, file, options),
         fault: None,
     };
-    let size = size_of(showing, files, file);
-    let progress = Progress::new(showing, &mut *telling.errors, file, size);
-    let mut watched = Watched::new(alloc, file, reader, progress);
+    let mut watched = Watched::new(showing, file, reader, &mut *telling.errors);
     let Outcome { target, ended } = convert(alloc, &mut watched, options, target);
-    let seen = watched.into_seen();
+    let unread = watched.into_fault();
     let Collected {
         store,
         mut notes,
@@ -270,7 +265,7 @@ fn convert_into<C: Clock, F: NamedFiles, R: Read, E: Write>(
     } = target;
     end_notes(&mut notes, &ended);
     let errors = &mut *telling.errors;
-    let read = end_of_seen(alloc, &notes, seen, options, ended, fault, errors);
+    let read = end_of_seen(alloc, &notes, unread, options, ended, fault, errors);
     let made = store.finish();
     if !read.is_converted() {
         made.discard(files);
@@ -372,12 +367,7 @@ fn has_folder<F: NamedFiles, E: Write>(
 {
     match run.folder {
         Some(folder) if !files.is_folder(folder) => {
-            for why in [
-                "no folder",
-                "make this folder first, or correct the name behind -o",
-            ] {
-                write_fault(alloc, &FileFault::new(alloc, folder, why), errors);
-            }
+            write_fault(alloc, &FileFault::new(alloc, folder, "no folder"), errors);
             false
         }
         _ => true,

@@ -1,34 +1,16 @@
 //! What the summary counts of a Product beside its notes.
 
 use crate::doublets::field;
-use crate::note_texts::is_emptied;
+use crate::reasons::is_emptied;
+use crate::summary::{
+    AGAIN, EMPTIED, OF_OTHERS, OF_SEVERAL, OTHER_DETAILS, PRODUCTS, Summary, UNPRICED, WITH_RIGHTS,
+};
 use csv_records::buffer::RecordBuffer;
 use csv_records::record::Record;
 use feed_mapping::{
     Composite, Note, Pair, first_composite, is_of_other, next_composite, next_detail, text_or_empty,
 };
 use feed_outline::{Elements, Line, Node, text_in};
-
-/// What is counted of a Product.
-#[derive(Clone, Copy)]
-pub struct ProductCounts {
-    /// Whether it is written without the supplies that it may have.
-    pub(crate) is_emptied: bool,
-    /// Whether it had a Price with an amount, and none is written.
-    pub(crate) has_lost_prices: bool,
-    /// How many of its elements come again though they do not repeat.
-    pub(crate) again: u64,
-    /// Whether it is written for the world by a ProductSupply without a Market, and has
-    /// SalesRights.
-    pub(crate) has_rights: bool,
-    /// Whether it is written without supplies, since all of its SupplyDetails are of others than the
-    /// supplier that is named.
-    pub(crate) is_of_others: bool,
-    /// How many of its SupplyDetails are of others, where it is neither left out nor emptied.
-    pub(crate) details_of_others: u64,
-    /// Whether no supplier is named, and it is written with SupplyDetails of several.
-    pub(crate) is_of_several: bool,
-}
 
 // What repeats, or is counted alone.
 const REPEATABLE: [&[u8]; 17] = [
@@ -92,8 +74,12 @@ fn comes_again(element: &Node<'_>) -> bool {
     }
 }
 
-// How many of the elements come again, and of those in what is read of them: one of them is not.
-fn count_again(named: Option<Pair<'_>>, elements: &Elements<'_>, is_deletion: bool) -> u64 {
+/// How many of the elements come again, and of those in what is read of them: one of them is not.
+pub(crate) fn count_again(
+    named: Option<Pair<'_>>,
+    elements: &Elements<'_>,
+    is_deletion: bool,
+) -> u64 {
     let mut count = 0u64;
     let mut rest = elements.copy();
     while let Some(node) = rest.first() {
@@ -110,45 +96,35 @@ fn count_again(named: Option<Pair<'_>>, elements: &Elements<'_>, is_deletion: bo
     count
 }
 
-/// How many of the elements in a Header come again though they do not repeat.
-pub(crate) fn again_in_header(header: &Composite<'_>) -> u64 {
-    count_again(None, &header.below, false)
+// What counts below a Product, by its name and those of what it stands in.
+const DETAILS: [&[u8]; 2] = [b"ProductSupply", b"SupplyDetail"];
+
+const PRICES: [&[u8]; 3] = [b"ProductSupply", b"SupplyDetail", b"Price"];
+
+const RIGHTS: [&[u8]; 2] = [b"PublishingDetail", b"SalesRights"];
+
+// Whether an element counts: a SupplyDetail of the supplier that is named, a Price with an amount,
+// and any other.
+fn is_counted(named: Option<Pair<'_>>, element: &Composite<'_>) -> bool {
+    let name = element.line.name;
+    (name != b"SupplyDetail".as_slice() || !is_of_other(named, &element.below))
+        && (name != b"Price".as_slice() || text_in(b"PriceAmount", &element.below).is_some())
 }
 
-// Whether a SupplyDetail has a Price with an amount.
-fn has_amount(detail: &Elements<'_>) -> bool {
-    let mut rest = detail.copy();
-    while let Some((price, behind)) = next_composite(b"Price", &rest) {
-        if text_in(b"PriceAmount", &price.below).is_some() {
-            return true;
+// How many elements of that path count.
+fn count_at(named: Option<Pair<'_>>, path: &[&[u8]], elements: &Elements<'_>) -> u64 {
+    let Some((name, deeper)) = path.split_first() else {
+        return 1;
+    };
+    let mut count = 0u64;
+    let mut rest = elements.copy();
+    while let Some((element, behind)) = next_composite(name, &rest) {
+        if is_counted(named, &element) {
+            count = count.saturating_add(count_at(named, deeper, &element.below));
         }
         rest = behind;
     }
-    false
-}
-
-// Whether one of the SupplyDetails of a ProductSupply that count has such a Price.
-fn has_priced_detail(named: Option<Pair<'_>>, supply: &Elements<'_>) -> bool {
-    let mut rest = supply.copy();
-    while let Some((detail, behind)) = next_detail(named, &rest) {
-        if has_amount(&detail.below) {
-            return true;
-        }
-        rest = behind;
-    }
-    false
-}
-
-// Whether one of the ProductSupplys of a Product has such a Price.
-fn has_priced_supply(named: Option<Pair<'_>>, product: &Elements<'_>) -> bool {
-    let mut rest = product.copy();
-    while let Some((supply, behind)) = next_composite(b"ProductSupply", &rest) {
-        if has_priced_detail(named, &supply.below) {
-            return true;
-        }
-        rest = behind;
-    }
-    false
+    count
 }
 
 // Whether one of the records has this name.
@@ -184,28 +160,6 @@ fn has_world_supply(named: Option<Pair<'_>>, product: &Elements<'_>, notes: &[No
     false
 }
 
-// How many SupplyDetails of a ProductSupply are of others than the supplier that is named.
-fn count_others_in(named: Option<Pair<'_>>, supply: &Elements<'_>) -> u64 {
-    let mut count = 0u64;
-    let mut rest = supply.copy();
-    while let Some((detail, behind)) = next_composite(b"SupplyDetail", &rest) {
-        count = count.saturating_add(u64::from(is_of_other(named, &detail.below)));
-        rest = behind;
-    }
-    count
-}
-
-// The same of a Product.
-fn count_others(named: Option<Pair<'_>>, product: &Elements<'_>) -> u64 {
-    let mut count = 0u64;
-    let mut rest = product.copy();
-    while let Some((supply, behind)) = next_composite(b"ProductSupply", &rest) {
-        count = count.saturating_add(count_others_in(named, &supply.below));
-        rest = behind;
-    }
-    count
-}
-
 // Whether the records of two SupplyDetails are of different suppliers, by type and value, or by name
 // where neither has them.
 fn are_of_two(one: &Record<'_>, other: &Record<'_>) -> bool {
@@ -233,58 +187,42 @@ fn are_of_several(written: &RecordBuffer) -> bool {
     false
 }
 
-// Whether a Product has SalesRights in a PublishingDetail.
-fn has_sales_rights(product: &Elements<'_>) -> bool {
-    let mut rest = product.copy();
-    while let Some((detail, behind)) = next_composite(b"PublishingDetail", &rest) {
-        if first_composite(b"SalesRights", &detail.below).is_some() {
-            return true;
-        }
-        rest = behind;
-    }
-    false
-}
-
-// Whether it is a deletion, whose supplies are not looked at.
-fn is_deletion(product: &Elements<'_>) -> bool {
-    text_or_empty(b"NotificationType", product) == b"05".as_slice()
-}
-
 /// Whether a note says that a Product is of other suppliers alone.
 pub(crate) fn is_of_others(notes: &[Note<'_>]) -> bool {
     notes.iter().any(|note| note.reason.kind.is_of_others())
 }
 
-impl ProductCounts {
-    /// What is counted of a Product, of which these records are written, with these notes, where
-    /// that supplier is named, or none.
-    pub(crate) fn of(
-        named: Option<Pair<'_>>,
-        product: &Composite<'_>,
-        written: &RecordBuffer,
-        notes: &[Note<'_>],
-    ) -> ProductCounts {
-        let below = &product.below;
-        let is_deletion = is_deletion(below);
-        let is_priced = !is_deletion && has_priced_supply(named, below);
-        let is_supplied = has_record("ProductSupply", written);
-        let has_emptied = notes.iter().any(|note| is_emptied(note.reason.kind));
-        let is_emptied = written.len() != 0 && has_emptied;
-        let stands = written.len() != 0 && !is_emptied && !is_deletion;
-        ProductCounts {
-            is_emptied,
-            has_lost_prices: is_priced && !has_record("Price", written),
-            again: count_again(named, below, is_deletion),
-            has_rights: is_supplied
-                && has_sales_rights(below)
-                && has_world_supply(named, below, notes),
-            is_of_others: is_of_others(notes),
-            details_of_others: if stands {
-                count_others(named, below)
-            } else {
-                0
-            },
-            is_of_several: named.is_none() && are_of_several(written),
-        }
+/// Counts a Product, of which these records are written, with these notes, where that supplier is
+/// named, or none.
+pub(crate) fn count_product(
+    summary: &mut Summary,
+    named: Option<Pair<'_>>,
+    product: &Composite<'_>,
+    written: &RecordBuffer,
+    notes: &[Note<'_>],
+) {
+    let below = &product.below;
+    // Its supplies are not looked at then.
+    let is_deletion = text_or_empty(b"NotificationType", below) == b"05".as_slice();
+    let has_emptied = notes.iter().any(|note| is_emptied(note.reason.kind));
+    let is_emptied = written.len() != 0 && has_emptied;
+    let is_unpriced = !is_deletion
+        && !has_record("Price", written)
+        && count_at(named, &PRICES, below) != 0;
+    let has_rights = has_record("ProductSupply", written)
+        && count_at(None, &RIGHTS, below) != 0
+        && has_world_supply(named, below, notes);
+    summary.count(PRODUCTS, 1);
+    summary.count(EMPTIED, u64::from(is_emptied));
+    summary.count(UNPRICED, u64::from(is_unpriced));
+    summary.count(WITH_RIGHTS, u64::from(has_rights));
+    summary.count(OF_OTHERS, u64::from(is_of_others(notes)));
+    let is_of_several = named.is_none() && are_of_several(written);
+    summary.count(OF_SEVERAL, u64::from(is_of_several));
+    summary.count(AGAIN, count_again(named, below, is_deletion));
+    if written.len() != 0 && !is_emptied && !is_deletion {
+        let own = count_at(named, &DETAILS, below);
+        let others = count_at(None, &DETAILS, below).saturating_sub(own);
+        summary.count(OTHER_DETAILS, others);
     }
 }

@@ -7,21 +7,14 @@ use std::alloc::{AllocError, Global};
 use std::io::Write;
 use watched_output::shown_texts::push_shown;
 
-// Adds the line of a file of this name.
-fn push_line(line: &mut String, name: &str, why: &str) -> Result<(), AllocError> {
-    line.push_str(PREFIX)?;
-    push_shown(line, name, SHOWN)?;
-    line.push_str(": ")?;
-    line.push_str(why)?;
-    line.push_str("\n")
-}
-
 // The line of a fault.
 fn line_of(alloc: Global, fault: &FileFault) -> Result<String, AllocError> {
     match fault {
         FileFault::File { name, why } => {
             let mut line = String::new(alloc);
-            push_line(&mut line, name.as_str(), why.as_str())?;
+            line.push_str(PREFIX)?;
+            push_shown(&mut line, name.as_str(), SHOWN)?;
+            write!(line, ": {why}\n")?;
             Ok(line)
         }
         FileFault::Memory => Err(AllocError),

@@ -1,40 +1,68 @@
 //! Why the message of a FILE is refused.
 
-use crate::garbled::push_garbled;
 use crate::notes::{Notes, push_place};
-use crate::numbers::push_number;
-use crate::shown::{SHOWN, push_reference, push_shown_bytes};
-use crate::unread;
-use crate::watched::Seen;
+use crate::reasons::STRANGER;
+use crate::shown::{push_reason, push_value};
 use feed_conversion::{Fault, Options, Refusal};
-use feed_mapping::{HeaderRefusal, Pair};
-use feed_outline::{RefusalHints, Wrong};
+use feed_mapping::HeaderRefusal;
+use feed_outline::{RefusalHints, StuckAt, Wrong};
 use feed_xml::Position;
+use program_files::FileFault;
 use std::alloc::AllocError;
-use watched_output::shown_texts::push_shown;
-
-const NO_HEADER: &str = "no Header before the first Product, and so neither a sender nor a number";
-
-// What can be done about wrong products.
-const MENDED: &str = "; the sender has to mend it, or --wrong all lets them through";
-
-const OTHER_NAMESPACE: &str =
-    "an element is in another namespace, of the other kind of names, or in other letters than one \
-    that counts in its place";
 
 const AGREED: &str =
     "the number of parts is a part of the agreement on the series, and with another one its \
-    numbers no longer follow each other: agree on --parts before the first message, or see Large \
-    messages in ONIX.md";
+    numbers no longer follow each other";
 
 /// What is known of a FILE that was not converted, beside its fault.
 #[derive(Clone, Copy)]
 pub struct RefusedFile<'a> {
     pub file: &'a str,
     pub options: &'a Options<'a>,
-    pub seen: &'a Seen,
     /// The notes on what is left out of it.
     pub notes: &'a Notes<'a>,
+    /// Why a read failed, where one did.
+    pub unread: &'a Option<FileFault>,
+}
+
+// Of a file that is no document. Where nothing else is told it is malformed by its end alone.
+fn words_of_document(fault: &feed_xml::Fault) -> &'static str {
+    match fault {
+        feed_xml::Fault::NotText => {
+            "what is no text of XML in its encoding, as of a packed file or of another encoding"
+        }
+        feed_xml::Fault::TooDeep => "more than 1,000 elements within one another",
+        feed_xml::Fault::TooLong => "a tag, name or comment of more than 4,194,304 bytes",
+        feed_xml::Fault::LargeTag => "a tag with more than 64 attributes, or 65,536 bytes of them",
+        _ => "the file ends too early",
+    }
+}
+
+// Of a Header for which a message is refused. In the place of `..` stands its MessageNumber, or the
+// field that the desk would not take.
+fn words_of_header(refusal: HeaderRefusal) -> &'static str {
+    match refusal {
+        HeaderRefusal::NoSender => "no sender identifier; --sender TYPE,VALUE gives one",
+        HeaderRefusal::SeveralAddressees => {
+            "several addressees; --addressee TYPE,VALUE picks one"
+        }
+        HeaderRefusal::NoSuchAddressee => "none of several addressees is that of --addressee",
+        HeaderRefusal::NoNumber => "no MessageNumber; --number N gives one",
+        HeaderRefusal::WrongNumber => "MessageNumber .. is none; --number N gives one",
+        HeaderRefusal::NumberTooGreat => "MessageNumber .. and --number-offset exceed 999999999",
+        HeaderRefusal::LastNumberTooGreat => "the number of its last part exceeds 999999999",
+        HeaderRefusal::Malformed => "a Header that the desk would call malformed: ..",
+    }
+}
+
+// Adds what of a document is malformed: what stands there, and in which element.
+fn push_stuck(line: &mut String, at: &StuckAt) -> Result<(), AllocError> {
+    push_reason(line, "no well-formed XML at ..", at.begins.as_slice())?;
+    let Some((name, place)) = &at.open else {
+        return Ok(());
+    };
+    push_reason(line, " within <..>", name.as_slice())?;
+    write!(line, ", which begins at {}:{}", place.line, place.column)
 }
 
 // Adds why a file is no document.
@@ -42,98 +70,54 @@ fn push_unread(
     line: &mut String,
     fault: &feed_xml::Fault,
     told: &RefusalHints,
-    seen: &Seen,
+) -> Result<(), AllocError> {
+    match (fault, &told.stuck) {
+        (feed_xml::Fault::UnknownEncoding(name), _) => {
+            let is_utf16 = name.as_slice() == b"UTF-16".as_slice();
+            let recoded = "encoding ..; iconv -f UTF-16 -t UTF-8 recodes it";
+            let words = if is_utf16 {
+                recoded
+            } else {
+                "encoding .. is not read"
+            };
+            push_reason(line, words, name.as_slice())
+        }
+        (feed_xml::Fault::Malformed, Some(at)) => push_stuck(line, at),
+        _ => line.push_str(words_of_document(fault)),
+    }
+}
+
+// Adds why a feed is not read.
+fn push_stopped(
+    line: &mut String,
+    fault: &feed_outline::Fault,
+    told: &RefusalHints,
 ) -> Result<(), AllocError> {
     match fault {
-        feed_xml::Fault::NotText => match seen.kind {
-            Some(kind) => write!(line, "no XML, but {kind}"),
-            None => push_garbled(line, seen.garbled),
-        },
-        feed_xml::Fault::TooDeep => line.push_str("more than 1,000 elements within one another"),
-        feed_xml::Fault::TooLong => line.push_str(
-            "a tag, name or comment of more than 4,194,304 bytes",
+        feed_outline::Fault::Document(fault) => push_unread(line, fault, told),
+        feed_outline::Fault::Message(Wrong::Root(name)) => push_reason(
+            line,
+            "root .. is neither ONIXMessage nor ONIXmessage",
+            name.as_slice(),
         ),
-        feed_xml::Fault::LargeTag => {
-            line.push_str("a tag with more than 64 attributes, or 65,536 bytes of them")
+        feed_outline::Fault::Message(Wrong::Release(release, _)) => {
+            let value = match release {
+                Some(release) => release.as_slice(),
+                None => b"",
+            };
+            push_reason(line, "release .., not 3.0 or 3.1", value)
         }
-        feed_xml::Fault::UnknownEncoding(name) => unread::push_encoding(line, name.as_slice()),
-        _ => unread::push_malformed(line, told, seen),
-    }
-}
-
-// Adds why a document is no message.
-fn push_wrong(line: &mut String, wrong: &Wrong, told: &RefusalHints) -> Result<(), AllocError> {
-    match wrong {
-        Wrong::Root(name) => unread::push_root(line, name.as_slice()),
-        Wrong::Release(release, address) => {
-            unread::push_release(line, release, address.as_slice(), told)
+        feed_outline::Fault::Reference => {
+            let value = match &told.reference {
+                Some(body) => body.as_slice(),
+                None => b"",
+            };
+            push_reason(line, "&..; stands for nothing", value)
         }
-    }
-}
-
-// Adds an identifier as the command line gives it.
-fn push_pair(line: &mut String, pair: Option<Pair<'_>>) -> Result<(), AllocError> {
-    let Some(pair) = pair else {
-        return Ok(());
-    };
-    push_shown_bytes(line, pair.id_type)?;
-    line.push_str(",")?;
-    push_shown_bytes(line, pair.id_value)
-}
-
-// Adds that a Header has no sender, and whether it has no number either.
-fn push_no_sender(
-    line: &mut String,
-    number: &[u8],
-    known: &RefusedFile<'_>,
-) -> Result<(), AllocError> {
-    line.push_str("no sender identifier; --sender TYPE,VALUE gives one")?;
-    if number.is_empty() && known.options.choices.number.is_none() {
-        line.push_str("; no MessageNumber either; --number N gives one")?;
-    }
-    Ok(())
-}
-
-// Adds why a message is refused for its Header, which has this MessageNumber.
-fn push_header(
-    line: &mut String,
-    refusal: HeaderRefusal,
-    number: &[u8],
-    known: &RefusedFile<'_>,
-) -> Result<(), AllocError> {
-    match refusal {
-        HeaderRefusal::NoSender => push_no_sender(line, number, known),
-        HeaderRefusal::SeveralAddressees => {
-            line.push_str("several addressees; --addressee TYPE,VALUE picks one")
-        }
-        HeaderRefusal::NoSuchAddressee => {
-            line.push_str("none of several addressees has the identifier ")?;
-            push_pair(line, known.options.choices.addressee)?;
-            line.push_str(" of --addressee")
-        }
-        HeaderRefusal::NoNumber => line.push_str("no MessageNumber; --number N gives one"),
-        HeaderRefusal::WrongNumber
-        | HeaderRefusal::NumberTooGreat
-        | HeaderRefusal::LastNumberTooGreat => {
-            push_number(line, refusal, number, &known.options.choices)
-        }
-        HeaderRefusal::Malformed => {
-            line.push_str("a Header that the desk would call malformed: ")?;
-            line.push_str(known.notes.header())
+        feed_outline::Fault::TooLarge => {
+            line.push_str("a Header or a Product of more than 4,194,304 bytes")
         }
     }
-}
-
-// Adds how many of how many products are wrong, the first of them, and what can be done about it.
-fn push_products(
-    line: &mut String,
-    wrong: u32,
-    products: u32,
-    reference: &[u8],
-) -> Result<(), AllocError> {
-    write!(line, "{wrong} of {products} products wrong, the first ")?;
-    push_reference(line, reference)?;
-    line.push_str(MENDED)
 }
 
 // Where what a message is refused for stands.
@@ -156,17 +140,25 @@ fn push_refused(
     known: &RefusedFile<'_>,
 ) -> Result<(), AllocError> {
     match refusal {
-        Refusal::NoHeader(_) => line.push_str(NO_HEADER),
+        Refusal::NoHeader(_) => line.push_str("no Header before the first Product"),
+        Refusal::Header(HeaderRefusal::Malformed, _, _) => push_reason(
+            line,
+            words_of_header(HeaderRefusal::Malformed),
+            known.notes.header.as_bytes(),
+        ),
         Refusal::Header(refusal, number, _) => {
-            push_header(line, *refusal, number.as_slice(), known)
+            push_reason(line, words_of_header(*refusal), number.as_slice())
         }
         Refusal::SecondHeader(_) => line.push_str("a second Header"),
         Refusal::OtherNamespace(_) => {
-            line.push_str(OTHER_NAMESPACE)?;
-            line.push_str(known.notes.stranger())
+            push_reason(line, STRANGER, known.notes.stranger.as_bytes())
         }
         Refusal::Wrong(wrong, products, reference, _) => {
-            push_products(line, *wrong, *products, reference.as_slice())
+            write!(
+                line,
+                "{wrong} of {products} products wrong; --wrong all lets them through; the first: "
+            )?;
+            push_value(line, reference.as_slice())
         }
         Refusal::Parts(count, _) => {
             let parts = known.options.choices.parts;
@@ -178,39 +170,10 @@ fn push_refused(
     }
 }
 
-// Adds why a feed is not read.
-fn push_stopped(
-    line: &mut String,
-    fault: &feed_outline::Fault,
-    told: &RefusalHints,
-    seen: &Seen,
-) -> Result<(), AllocError> {
-    match fault {
-        feed_outline::Fault::Document(fault) => push_unread(line, fault, told, seen),
-        feed_outline::Fault::Message(wrong) => push_wrong(line, wrong, told),
-        feed_outline::Fault::Reference => unread::push_reference(line, told),
-        feed_outline::Fault::TooLarge => {
-            line.push_str("a Header or a Product of more than 4,194,304 bytes")
-        }
-    }
-}
-
 // Adds the beginning of the line of a refusal.
 fn push_start(line: &mut String, file: &str, place: Position) -> Result<(), AllocError> {
     push_place(line, file, place)?;
     line.push_str("refused: ")
-}
-
-// Adds the lines on wrong products, where a message is refused for these.
-fn push_wrong_products(
-    line: &mut String,
-    refusal: &Refusal,
-    notes: &Notes<'_>,
-) -> Result<(), AllocError> {
-    match refusal {
-        Refusal::Wrong(_, _, _, _) => line.push_str(notes.of_wrong()),
-        _ => Ok(()),
-    }
 }
 
 /// Adds the line of a FILE that was not converted, unless memory ran out; before it the lines on
@@ -220,14 +183,17 @@ pub(crate) fn push_refusal(
     known: &RefusedFile<'_>,
     fault: &Fault,
 ) -> Result<(), AllocError> {
+    let file = known.file;
     match fault {
         Fault::Unread(fault, place, told) => {
-            push_start(line, known.file, *place)?;
-            push_stopped(line, fault, told, known.seen)?;
+            push_start(line, file, *place)?;
+            push_stopped(line, fault, told)?;
         }
         Fault::Refused(refusal) => {
-            push_wrong_products(line, refusal, known.notes)?;
-            push_start(line, known.file, place_of(refusal))?;
+            if let Refusal::Wrong(_, _, _, _) = refusal {
+                line.push_str(known.notes.of_wrong.text.as_str())?;
+            }
+            push_start(line, file, place_of(refusal))?;
             push_refused(line, refusal, known)?;
         }
         Fault::Memory => return Ok(()),
@@ -235,19 +201,8 @@ pub(crate) fn push_refusal(
     line.push_str("\n")
 }
 
-// What unpacks a file of this name.
-fn unpacking(file: &str) -> &'static str {
-    match file.as_bytes() {
-        [.., b'z' | b'Z', b'i' | b'I', b'p' | b'P'] => "unzip -p",
-        _ => "gunzip -c",
-    }
-}
-
 /// Adds the line of a FILE that is packed by its name.
 pub(crate) fn push_packed(line: &mut String, file: &str) -> Result<(), AllocError> {
     push_start(line, file, Position::first())?;
-    let command = unpacking(file);
-    write!(line, "the file is compressed; unpack it first: {command} ")?;
-    push_shown(line, file, SHOWN)?;
-    line.push_str(" | onixdesk convert\n")
+    line.push_str("packed; gunzip -c or unzip -p unpacks it\n")
 }

@@ -43,7 +43,7 @@ fn run_words(rt: &HostRuntime, words: std::env::Args) -> Result<u8, AllocError>
         files: HostFiles::new(rt),
         streams: Streams {
             input: rt.stdin(),
-            output: Watched::new(alloc, rt, output, rt.stderr(), is_shown),
+            output: Watched::new(rt, output, rt.stderr(), is_shown),
             errors: Errors::new(rt.stderr(), is_terminal),
         },
     };

@@ -1,8 +1,8 @@
-//! An output that passes on what is written to it: `output` shows on a terminal how much that is, and
-//! says why it took no more; `hints` says what the refusals in it mean; `shown_texts` has texts of
-//! others, as one line of a terminal shows them.
+//! An output that passes on what is written to it: `output` shows on a terminal how much that is, by
+//! the line of `progress`, and says why it took no more; `shown_texts` has texts of others, as one
+//! line of a terminal shows them.
 #![tactic(auto)]
 
-mod hints;
 pub mod output;
+pub mod progress;
 pub mod shown_texts;

@@ -15,8 +15,7 @@ CONVERSION_SECONDS, READING_SECONDS, CHECK_SECONDS = 1800, 600, 60
 
 PROGRAM_SAYS = "onixdesk: "
 ON_INPUT = re.compile(r"onixdesk: -(?::([0-9]+):([0-9]+))?: ")
-TOTAL = re.compile(r"([0-9]+) notes?(?:, ([0-9]+) products? wrong)?")
-COUNTED, OF_ALL = re.compile(r"(.*): ([0-9]+)"), re.compile(r"([0-9]+) of [0-9]+ (products?) (.*)")
+COUNTED = re.compile(r"(.*): ([0-9]+)")
 
 # What the converter proposes on a command line, but the number, stands in WORDS of an inbox.
 REMEDY = re.compile(r"(--(?:sender|addressee|supplier|wrong) \S+)")
@@ -28,11 +27,14 @@ class Refusal(Exception):
 
 @dataclass
 class Said:
-    """What the converter said of a feed: how often each reason, and how many products are wrong."""
+    """What the converter said of a feed, and how often each reason, or what else it counts."""
 
     lines: list[str] = field(default_factory=list)
     reasons: dict[str, int] = field(default_factory=dict)
-    wrong: int = 0
+
+    @property
+    def wrong(self) -> int:
+        return self.reasons.get("products wrong", 0)
 
     def count(self, *beginnings: str) -> int:
         return sum(number for reason, number in self.reasons.items() if reason.startswith(beginnings))
@@ -48,13 +50,8 @@ def said_in(errors: bytes) -> Said:
         said.lines.append(shown(line))
         if ON_INPUT.match(line):
             continue
-        text = line.removeprefix(PROGRAM_SAYS)
-        if total := TOTAL.fullmatch(text):
-            said.wrong = int(total[2] or 0)
-        elif counted := COUNTED.fullmatch(text):
+        if counted := COUNTED.fullmatch(line.removeprefix(PROGRAM_SAYS)):
             said.reasons[counted[1]] = said.reasons.get(counted[1], 0) + int(counted[2])
-        elif of_all := OF_ALL.fullmatch(text):
-            said.reasons[f"{of_all[2]} {of_all[3]}"] = int(of_all[1])
     return said
 
 

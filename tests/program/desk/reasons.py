@@ -8,7 +8,7 @@ from collections.abc import Iterator
 from typing import NamedTuple
 
 from tests.program.databases import DATABASE, META, batch, execute
-from tests.program.messages import AGREEMENT, bare, priced
+from tests.program.messages import AGREEMENT
 from tests.program.room import Ran, Room
 from tests.program.serving import HOST, posted, serving
 from tests.running import Outcome
@@ -73,7 +73,7 @@ def files(room: Room) -> Iterator[Outcome]:
             came = told(room.told(*words), name)
             yield Outcome(f"why: {' '.join(words)}", came, fault(f"file: {name}", status=2))
     room.write("rules.toml", b'[[rule]]\nserie = "*"\n')
-    came = told(room.told("--rules", "rules.toml", "batch"), "rules.toml: line 2")
+    came = told(room.told("--rules", "rules.toml", "batch"), "rules.toml: rule 1")
     yield Outcome("why: a rules file", came, fault("rules: bad rule 1", status=2))
 
 
@@ -157,28 +157,14 @@ def of_a_socket(room: Room) -> Iterator[Outcome]:
             yield Outcome(f"why: {count} to a socket: the desk", (ended.status, ended.errors), (0, lines))
 
 
-# A message of number 1 beside the bare one, and one without a number.
-OTHER = priced(1, "R1", "4.14")
 UNNUMBERED = b"Message,1,06,4012345000009,06,5012345678900,,,,,\nEndMessage,1\n"
 
 
 def refusals(room: Room) -> Iterator[Outcome]:
-    """Behind the first refusal of each kind one line says what it means; behind those of a desk in memory one says that
-    there was no --db."""
-    second = AGREEMENT.replace(b",1\n", b",2\n")
-    calendar = b"AskCalendar,9781234567897,20250402,20250401,GB,GBP,02\n"
-    for kind, text in {
-        "name-taken": AGREEMENT + second,
-        "series-taken": AGREEMENT + AGREEMENT.replace(b"Agree,north,", b"Agree,west,"),
-        "before-first": second + bare(1) * 2,
-        "other-contents": AGREEMENT + bare(1) + OTHER,
-        "bad-range": calendar,
-        "unnumbered": AGREEMENT + UNNUMBERED * 2,
-    }.items():
-        came = room.told("batch", given=text)
-        hint, last = came.errors.decode().splitlines()
-        found = hint.startswith(f"onixdesk: refused,{kind}: "), last.startswith("onixdesk: without --db ")
-        yield Outcome(f"why: {kind}", (came.status, found), (1, (True, True)))
+    """Behind those of a desk in memory one line says that there was no --db."""
+    came = room.told("batch", given=AGREEMENT + AGREEMENT.replace(b"Agree,north,", b"Agree,west,"))
+    [line] = came.errors.decode().splitlines()
+    yield Outcome("why: no --db", (came.status, line.startswith("onixdesk: without --db ")), (1, True))
 
 
 # Questions over HTTP whose query is bad, by the key that is wrong; and one that is not bad.

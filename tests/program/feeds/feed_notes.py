@@ -4,7 +4,7 @@ import re
 from collections.abc import Iterable
 from typing import NamedTuple
 
-from tests.program.feeds.feed_oracle import OF_OTHER_THINGS, Note
+from tests.program.feeds.feed_oracle import COUNTED, Note
 from tests.program.feeds.feed_trees import Place
 
 # So many lines of notes a file has at most, and besides so many of products that are left out or emptied.
@@ -91,45 +91,29 @@ def compared(wanted: list[Note], starts: dict[object, Place], said: Iterable[Sai
 
 
 # The first line where a FILE has nothing of the supplier that is asked for.
-LACKING = re.compile("no SupplyDetail .*")
+LACKING = "no SupplyDetail of the supplier of --supplier in a FILE with others"
+
+# How many products and notes there are, and how many of the products are wrong.
+PRODUCTS, WRONG, NOTES = "products", "products wrong", "notes"
 
 
-class Summary(NamedTuple):
-    """Whether a FILE has nothing of the supplier; how often each reason was given; how many products of how many are
-    counted, by what is said of them; and the last line, which counts all notes and wrong products, where there are
-    some."""
-
-    is_lacking: bool
-    reasons: dict[str, int]
-    products: dict[str, tuple[int, int]]
-    last: str
-
-
-def read_summary(lines: list[str]) -> Summary:
-    reasons: dict[str, int] = {}
-    products: dict[str, tuple[int, int]] = {}
-    is_lacking = bool(lines) and LACKING.fullmatch(lines[0]) is not None
-    lines = lines[is_lacking:]
-    has_count = lines and re.fullmatch("[0-9]+ notes?(, [0-9]+ products? wrong)?", lines[-1])
-    for line in lines[:-1] if has_count else lines:
-        if found := re.fullmatch("([0-9]+) of ([0-9]+) products? (.*)", line):
-            products[found[3]] = int(found[1]), int(found[2])
-        else:
-            reason, _, count = line.rpartition(": ")
-            reasons[reason] = int(count)
-    return Summary(is_lacking, reasons, products, lines[-1] if has_count else "")
+def read_summary(lines: list[str]) -> dict[str, int]:
+    """How often each reason was given, and each of what is counted beside; ValueError where a line comes twice, or one
+    stands out of its place."""
+    found = [line.rpartition(": ") for line in lines]
+    counts = {words: int(count) for words, _, count in found}
+    words = list(counts)
+    if len(words) != len(lines) or LACKING in words[1:] or NOTES in words[:-1]:
+        raise ValueError(lines)
+    return counts
 
 
-def counted(count: int, thing: str) -> str:
-    return f"{count} {thing}" if count == 1 else f"{count} {thing}s"
+def notes_in(summary: dict[str, int]) -> int:
+    """How many notes it counts by their reasons."""
+    others = [*COUNTED, LACKING, PRODUCTS, WRONG, NOTES]
+    return sum(count for reason, count in summary.items() if reason not in others)
 
 
-def notes_in(summary: Summary) -> dict[str, int]:
-    """The notes that it counts, by their reasons."""
-    return {reason: count for reason, count in summary.reasons.items() if reason not in OF_OTHER_THINGS}
-
-
-def count_line(notes: int, wrong_products: int = 0) -> str:
-    """The line that counts all notes, and products that are wrong."""
-    wrong = f", {counted(wrong_products, 'product')} wrong" if wrong_products else ""
-    return counted(notes, "note") + wrong if notes else ""
+def summed(counts: dict[str, int]) -> list[str]:
+    """The lines of what is counted."""
+    return [f"{words}: {count}" for words, count in counts.items() if count]

@@ -56,25 +56,18 @@ SPACES = " \u00a0\u2009\u202f"
 Record = list[str]
 
 
-# What is counted without a note, as the summary calls it: how many products of all, and other things.
-EMPTIED, UNPRICED = "emptied", "left without a Price"
-OF_WORLD = "for the world without a Market, with SalesRights, not read"
-OF_OTHERS, OF_SEVERAL = "of other suppliers alone", "of several suppliers"
-OF_PRODUCTS = [EMPTIED, UNPRICED, OF_WORLD, OF_OTHERS, OF_SEVERAL]
-NOT_READ = {name: f"{name} of a Price, not read" for name in DISCOUNTS}
+# What is counted without a note, as the summary calls it.
+EMPTIED, UNPRICED = "products emptied", "products left without a Price"
+OF_WORLD = "products for the world without a Market, with SalesRights, not read"
+OF_OTHERS, OF_SEVERAL = "products of other suppliers alone", "products of several suppliers"
+NOT_READ = {name: f"{name} not read" for name in DISCOUNTS}
 DETAIL_OF_ANOTHER = "SupplyDetail of another supplier, not read"
 ROUNDED, DIFFERING = "PriceAmount rounded", "Price beside another of another amount"
-UNFITTED, HELD_BACK = "Price that no term fits", "computed price held back"
+UNFITTED, HELD_BACK = "Price that no term fits", "Price with a computed price held back"
 AGAIN, WITHOUT_PRODUCT = "an element comes again, not read", "a FILE without a Product"
-OF_OTHER_THINGS = [
-    *NOT_READ.values(),
-    DETAIL_OF_ANOTHER,
-    ROUNDED,
-    DIFFERING,
-    UNFITTED,
-    HELD_BACK,
-    AGAIN,
-    WITHOUT_PRODUCT,
+COUNTED = [
+    *(EMPTIED, UNPRICED, OF_WORLD, OF_OTHERS, OF_SEVERAL, *NOT_READ.values(), DETAIL_OF_ANOTHER),
+    *(ROUNDED, DIFFERING, UNFITTED, HELD_BACK, AGAIN, WITHOUT_PRODUCT),
 ]
 
 # A reason where any will do.
@@ -431,7 +424,7 @@ class Judge:
         self.counts[UNFITTED] += found.is_unfitted
         self.counts[HELD_BACK] += found.held
         if found.is_free:
-            self.note(priced.price, "an amount of 0")
+            self.note(priced.price, "computed price of 0")
         record = priced.record()
         return [record, *(computed_record(one, record) for one in found.written)]
 

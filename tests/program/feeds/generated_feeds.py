@@ -15,15 +15,25 @@ from typing import NamedTuple
 from tests.needs import DEBIAN_PYTHON
 from tests.program.feeds.convert.running import FEED, convert
 from tests.program.feeds.feed_net_prices import MIXED, NEVER, TAXED, told_of
-from tests.program.feeds.feed_notes import Said, compared, count_line, is_named, notes_in, read_errors, read_summary
+from tests.program.feeds.feed_notes import (
+    LACKING,
+    NOTES,
+    PRODUCTS,
+    WRONG,
+    Said,
+    compared,
+    is_named,
+    notes_in,
+    read_errors,
+    read_summary,
+)
 from tests.program.feeds.feed_oracle import (
     AGAIN,
+    COUNTED,
     DIFFERING,
     HELD_BACK,
     NOT_READ,
-    OF_OTHER_THINGS,
     OF_OTHERS,
-    OF_PRODUCTS,
     OF_SEVERAL,
     ROUNDED,
     UNFITTED,
@@ -93,15 +103,11 @@ def summed(wanted: Wanted, lines: list[str]) -> tuple[object, object]:
     if verdict.refusal or not wanted.message:
         return lines, []
     summary = read_summary(lines)
-    of_notes = notes_in(summary)
-    others = {name: count for name, count in summary.reasons.items() if name in OF_OTHER_THINGS}
-    found = summary.is_lacking, others, summary.products, summary.last, sum(of_notes.values())
-    count = len(verdict.notes)
-    last = count_line(count, verdict.wrong_products)
-    counts = +verdict.counts
-    products = {name: (counts[name], verdict.products) for name in OF_PRODUCTS if name in counts}
-    hoped = {name: counts[name] for name in OF_OTHER_THINGS if name in counts}
-    return found, (verdict.lacks_supplier, hoped, products, last, count)
+    notes = len(verdict.notes)
+    hoped = verdict.counts + Counter({LACKING: verdict.lacks_supplier, WRONG: verdict.wrong_products, NOTES: notes})
+    hoped += Counter({PRODUCTS: verdict.products if hoped else 0})
+    found = {words: count for words, count in summary.items() if words in (*COUNTED, LACKING, PRODUCTS, WRONG, NOTES)}
+    return (found, notes_in(summary)), (hoped, notes)
 
 
 class Kind(NamedTuple):

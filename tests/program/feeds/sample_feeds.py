@@ -7,7 +7,7 @@ from functools import partial
 from pathlib import Path
 
 from tests.program.feeds.convert.records_and_notes import LINE
-from tests.program.feeds.feed_notes import count_line
+from tests.program.feeds.feed_notes import NOTES, WRONG
 from tests.program.feeds.feed_trees import Place
 from tests.program.room import Group, Room
 from tests.running import Outcome
@@ -63,8 +63,8 @@ def sample(path: Path, room: Room) -> Iterator[Outcome]:
     yield Outcome(f"convert {path.name}", (came.status, came.output), (status, records))
     hoped = NOTED if is_noted else []
     yield Outcome(f"convert {path.name}: its notes", noted(path, came.errors), hoped)
-    counts = [line for line in came.errors.decode().splitlines() if " note" in line]
-    wanted = [f"onixdesk: {count_line(len(hoped), 2)}"] if is_noted else []
+    counts = came.errors.decode().splitlines()[-2:]
+    wanted = [f"onixdesk: {WRONG}: 2", f"onixdesk: {NOTES}: {len(hoped)}"] if is_noted else []
     yield Outcome(f"convert {path.name}: the count", counts, wanted)
     came = room.run("convert", given=path.read_bytes())
     yield Outcome(f"convert {path.name}, from standard input", (came.status, came.output), (status, records))

@@ -137,8 +137,9 @@ class Converted(NamedTuple):
     is_told: bool = False
 
     def wrong_products(self) -> int:
-        """How many products are let through that are wrong; each has a reference of its own."""
-        return len({line.split(": ")[1] for line in self.wrong}) if self.records is not None else 0
+        """How many products are let through that are wrong; each has a reference of its own, or none."""
+        references = [line.split(": ")[1] for line in self.wrong] if self.records is not None else []
+        return len({*references} - {"missing"}) + references.count("missing")
 
     def status(self) -> int:
         return 1 if self.wrong or self.refused or self.is_told else 0

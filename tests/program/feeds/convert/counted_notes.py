@@ -6,6 +6,8 @@ from string import ascii_uppercase
 
 from tests.program.feeds.convert.case_files import FRAMES, SUPPLIER, said
 from tests.program.feeds.convert.running import FEED, convert
+from tests.program.feeds.feed_notes import NOTES, PRODUCTS, WRONG, summed
+from tests.program.feeds.feed_oracle import UNPRICED
 from tests.program.room import Ran, Room
 from tests.running import Outcome
 
@@ -45,12 +47,8 @@ def bounded(room: Room) -> Iterator[Outcome]:
     room.write("b.xml", prices(LINES + 1, "06"))
     room.write("c.xml", prices(LINES + 500, "07"))
     came = convert(room, "-o", ".", "a.xml", "b.xml", "c.xml")
-    summary = [
-        "Price left out: PriceQualifier 06: 2001",
-        "Price left out: PriceQualifier 07: 1500",
-        "3 of 3 products left without a Price",
-        "3501 notes",
-    ]
+    why = "Price left out: PriceQualifier"
+    summary = summed({f"{why} 06": 2001, f"{why} 07": 1500, UNPRICED: 3, PRODUCTS: 3, NOTES: 3501})
     lines = notes_on("a.xml", LINES, "06") + notes_on("b.xml", LINES, "06") + notes_on("c.xml", LINES, "07")
     found = came.status, came.errors.decode().splitlines()
     yield Outcome("files of many notes", found, (0, said(lines + summary).decode().splitlines()))
@@ -69,8 +67,8 @@ def products_besides(room: Room) -> Iterator[Outcome]:
     found = [sum(what in line for line in lines) for what in (": Price left out: ", ": Product emptied: ")]
     # The summary has a line of each too.
     yield Outcome("lines on products besides others", (came.status, found), (1, [LINES + 1] * 2))
-    count = f"onixdesk: {2 * LINES + 202} notes, {LINES + 2} products wrong"
-    yield Outcome("lines on products besides others, counted", lines[-1], count)
+    counts = summed({WRONG: LINES + 2, NOTES: 2 * LINES + 202})
+    yield Outcome("lines on products besides others, counted", lines[-2:], said(counts).decode().splitlines())
 
 
 def regions(room: Room) -> Iterator[Outcome]:
@@ -79,12 +77,12 @@ def regions(room: Room) -> Iterator[Outcome]:
     territory = f"<Territory><RegionsIncluded>{many}WORLD</RegionsIncluded></Territory>"
     room.write(FEED, feed_of("market", territory))
     came = convert(room, FEED)
-    line = f"{FEED}:2:1: R1: region of RegionsIncluded left out: GB-NIR beside a country or WORLD"
-    kind = "region of RegionsIncluded left out: .. beside a country or WORLD: 2500"
+    why = "Territory without the region {} beside a country or WORLD"
+    line = f"{FEED}:2:1: R1: {why.format('GB-NIR')}"
     wanted = Ran(
         0,
         message_of("market", "ProductSupply,,WORLD,\nSupplyDetail,04,,,North,21,\n"),
-        said([line] * LINES + [kind, "2500 notes"]),
+        said([line] * LINES + summed({why.format(".."): 2500, PRODUCTS: 1, NOTES: 2500})),
     )
     yield Outcome("the world behind 2,500 regions", came, wanted)
 
@@ -92,9 +90,9 @@ def regions(room: Room) -> Iterator[Outcome]:
     territory = f"<Territory><RegionsExcluded>CA-{long} ECZ</RegionsExcluded></Territory>"
     room.write(FEED, feed_of("price", territory))
     came = convert(room, FEED)
-    why = "Price left out: RegionsExcluded {}, which is no part of a country"
+    why = "Price left out: the region {}, no part of a country"
     at = FRAMES["price"].before.index("<Price>") + 1
-    counts = [f"{why.format('..')}: 1", "1 of 1 product left without a Price", "1 note"]
+    counts = summed({why.format(".."): 1, UNPRICED: 1, PRODUCTS: 1, NOTES: 1})
     told = [f"{FEED}:1:{at}: R1: {why.format('ECZ')}", *counts]
     yield Outcome("a region behind a long one", came, Ran(0, message_of("price"), said(told)))
 
@@ -120,4 +118,4 @@ def unions(room: Room) -> Iterator[Outcome]:
     came = convert(room, FEED)
     records = FRAMES["product"].records + "EndMessage,2\n"
     found = came.status, came.output.decode(), came.errors.decode().splitlines()[-1]
-    yield Outcome(f"Markets of {most + 1} countries", found, (0, records, "onixdesk: 2 notes"))
+    yield Outcome(f"Markets of {most + 1} countries", found, (0, records, "onixdesk: notes: 2"))

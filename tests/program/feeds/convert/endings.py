@@ -3,6 +3,7 @@
 import contextlib
 import os
 import pty
+import re
 import signal
 import subprocess
 import time
@@ -19,8 +20,8 @@ from tests.program.room import SECONDS, Group, Ran, Room
 from tests.program.written_cases import TESTS, read_file, repeated, unescaped
 from tests.running import Outcome
 
-CUT = "the file ends before </ONIXMessage>"
-NO_XML = "the XML is not well-formed"
+CUT = "the file ends too early"
+NO_XML = "no well-formed XML at"
 
 # Longer than what is kept of the beginning of a feed, and than what is read of it at once.
 LONG = f"<!--{' ' * 70_000}-->"
@@ -35,7 +36,7 @@ class Case(NamedTuple):
 
 
 def feeds() -> Iterator[Case]:
-    """Those of tests/refusals/feeds.txt: the name of a case says why its feeds are refused, which have escapes."""
+    """Those of tests/refusals/feeds.txt: the name of a case begins to say why its feeds are refused, which have escapes."""
     for case in read_file(TESTS / "refusals/feeds.txt"):
         for text in case.text.removesuffix("\n").splitlines():
             yield Case(f"the feed {text}", unescaped(repeated(text)), case.name)
@@ -54,10 +55,10 @@ def begun(size: int) -> str:
 
 
 ENDS = [
-    Case("a prolog", b'<?xml version="1.0"?>\n<!-- a message\n', "the file ends before its root element"),
-    Case("white space", b" \n", "the file ends before its root element"),
-    Case("short tags", in_short_tags(BEGUN).encode(), "the file ends before </ONIXmessage>"),
-    Case("a prolog that is long", f"{LONG}<!--".encode(), "the file ends before its root element"),
+    Case("a prolog", b'<?xml version="1.0"?>\n<!-- a message\n', CUT),
+    Case("white space", b" \n", CUT),
+    Case("short tags", in_short_tags(BEGUN).encode(), CUT),
+    Case("a prolog that is long", f"{LONG}<!--".encode(), CUT),
     *(
         Case(f"{size} bytes and {behind!r}", f"{begun(size)}{behind}".encode(), why)
         for size in SIZES
@@ -66,29 +67,30 @@ ENDS = [
             ("<Product><Record", CUT),
             ("<Product>R", CUT),
             ("<!-- ", CUT),
-            ("</Other>", f"{NO_XML}: </Other> does not close <ONIXMessage>, which begins at 1:1"),
-            (f"{FRAME.behind}</Other>", f"{NO_XML}: an end tag behind the root"),
+            ("</Other>", f"{NO_XML} </Other> within <ONIXMessage>, which begins at 1:1"),
+            (f"{FRAME.behind}</Other>", f"{NO_XML} </Other>"),
         ]
     ),
 ]
 
 
 def packed(room: Room) -> Iterator[Outcome]:
-    """A FILE that is packed by its name is refused with the command that converts it."""
-    for name, command in [
-        ("a.xml.gz", "gunzip -c"),
-        ("A.GZ", "gunzip -c"),
-        ("a.zip", "unzip -p"),
-        ("A.Zip", "unzip -p"),
-    ]:
+    """A FILE that is packed by its name is refused with what unpacks it."""
+    for name in "a.xml.gz", "A.GZ", "a.zip", "A.Zip":
         room.write(name, b"")
-        why = f"the file is compressed; unpack it first: {command} {name} | onixdesk convert"
+        why = "packed; gunzip -c or unzip -p unpacks it"
         wanted = Ran(1, b"", f"onixdesk: {name}:1:1: refused: {why}\n".encode())
         yield Outcome(f"convert: packed, {name}", room.run("convert", name), wanted)
 
 
+def standing(feed: bytes, head: str) -> str:
+    """What stands in a feed at the place that a line begins with."""
+    line, column = map(int, head.split(":")[-2:])
+    return feed.decode("utf-8-sig", "replace").split("\n")[line - 1][column - 1 :]
+
+
 def refused(cases: list[Case], room: Room) -> Iterator[Outcome]:
-    """Why each is refused, as a file and by standard input."""
+    """Why each is refused, as a file and by standard input, and what stands where it is malformed."""
     for case in cases:
         room.write(FEED, case.feed)
         for name, came in [
@@ -96,9 +98,12 @@ def refused(cases: list[Case], room: Room) -> Iterator[Outcome]:
             ("-", room.run("convert", given=case.feed)),
         ]:
             head, between, why = came.errors.decode().partition(": refused: ")
-            found = came.status, came.output, head.startswith(f"onixdesk: {name}:"), between, why
-            wanted = 1, b"", True, ": refused: ", f"{case.why}\n"
-            yield Outcome(f"convert: {case.name}, {name}", found, wanted)
+            cause = case.why if why.startswith(case.why) else why
+            found = came.status, came.output, head.startswith(f"onixdesk: {name}:"), between, cause
+            yield Outcome(f"convert: {case.name}, {name}", found, (1, b"", True, ": refused: ", case.why))
+            if why.startswith(NO_XML):
+                there = why.removeprefix(NO_XML)[1:3]
+                yield Outcome(f"convert: {case.name}, {name}: what stands there", there, standing(case.feed, head)[:2])
 
 
 def unread(room: Room) -> Iterator[Outcome]:
@@ -146,9 +151,10 @@ def terminal(room: Room) -> Iterator[Outcome]:
         shown = all_of(ours).decode()
         os.close(ours)
         yield Outcome(f"convert: a terminal, {name}: the records", (status, output), (0, message_of()))
-        lines = shown.split("\r\033[K")
-        is_so = all(line.startswith(f"{name}: 0.") and line.endswith(" MB") for line in lines[1:-1])
-        yield Outcome(f"convert: a terminal, {name}", (len(lines) > 2, is_so, lines[-1]), (True, True, ""))
+        first, *lines, last = shown.split("\033[K")
+        is_so = all(re.fullmatch(r"0\.[0-9] MB\r", line) for line in lines)
+        found = first, len(lines) > 1, is_so, last
+        yield Outcome(f"convert: a terminal, {name}", found, ("", True, True, ""))
 
 
 PARTS = {"message.part-01.csv": large_part(1, "R1"), "message.part-02.csv": large_part(2, "R2")}

@@ -6,6 +6,8 @@ from collections.abc import Iterator
 from tests.program.feeds.convert.case_files import FRAMES, said
 from tests.program.feeds.convert.running import FEED, convert
 from tests.program.feeds.convert.wanted_runs import DETAIL, ISBN, PRICE, PRODUCT, feed_of, message_of, supplied
+from tests.program.feeds.feed_notes import NOTES, PRODUCTS, WRONG, summed
+from tests.program.feeds.feed_oracle import EMPTIED, UNPRICED
 from tests.program.room import Ran, Room
 from tests.running import Outcome
 
@@ -20,7 +22,7 @@ FRAME = FRAMES["products"]
 # What is said of parts to the person who has to act.
 AGREED = (
     "the number of parts is a part of the agreement on the series, and with another one its numbers no"
-    " longer follow each other: agree on --parts before the first message, or see Large messages in ONIX.md"
+    " longer follow each other"
 )
 
 
@@ -103,7 +105,7 @@ def emptied_between_others() -> bytes:
 
 def one_product(room: Room) -> Iterator[Outcome]:
     """A product with as many prices as it may have, and with one more."""
-    why = "a Product too large for a message of 20000 records and 4194304 bytes"
+    why = "too large for a message of 20,000 records and 4,194,304 bytes"
     prices = MOST - 3
     whole = (
         f"{FRAME.records}Product,R1,03,15,{ISBN}\nProductSupply,,,\nSupplyDetail,04,,,North,21,\n"
@@ -116,8 +118,8 @@ def one_product(room: Room) -> Iterator[Outcome]:
 
     room.write(FEED, between_others(product_of(1, prices + 1)))
     emptied = f"Product emptied: {why}"
-    lost = [f"1 of 3 products {what}" for what in ("emptied", "left without a Price")]
-    said_of = said([f"{FEED}:2:1: R1: {emptied}", f"{emptied}: 1", *lost, "1 note, 1 product wrong"])
+    counts = {emptied: 1, EMPTIED: 1, UNPRICED: 1, PRODUCTS: 3, WRONG: 1, NOTES: 1}
+    said_of = said([f"{FEED}:2:1: R1: {emptied}", *summed(counts)])
     came = convert(room, FEED)
     yield Outcome("a product of 19,999 records", came, Ran(1, emptied_between_others(), said_of))
 
@@ -131,7 +133,7 @@ def many_identifiers(room: Room) -> Iterator[Outcome]:
     room.write(FEED, between_others(product))
     came = convert(room, FEED)
     found = came.status, came.output, came.errors.count(b"\n")
-    yield Outcome("a product of 2,500 identifiers that are quoted", found, (1, emptied_between_others(), 4))
+    yield Outcome("a product of 2,500 identifiers that are quoted", found, (1, emptied_between_others(), 6))
 
 
 def large_product(room: Room) -> Iterator[Outcome]:

@@ -6,7 +6,7 @@ from functools import partial
 from typing import NamedTuple
 
 from tests.program.feeds.convert.case_files import ANYWHERE, FOLDER, PLACE, Case, Converted, Feed, read_cases
-from tests.program.feeds.feed_notes import count_line, notes_in, read_summary
+from tests.program.feeds.feed_notes import NOTES, WRONG, notes_in, read_summary
 from tests.program.room import Group, Room
 from tests.running import Outcome
 
@@ -47,7 +47,7 @@ def of_part(place: str, data: bytes) -> str:
 
 
 # How an element is called that does not count in its place, which differs in short tags; tests/refusals has it.
-CALLED = re.compile("(?<= counts there): .*")
+CALLED = re.compile("(?<=spelling: ).*")
 
 
 def noted(line: str) -> Noted:
@@ -115,11 +115,12 @@ def summed(name: str, feeds: list[Feed], summary: list[str]) -> Iterator[Outcome
     """The lines behind the notes come to the count of all; some cases say each of them."""
     written = [feed.wanted for feed in feeds if feed.wanted.records is not None]
     notes = sum(len(each.notes) + len(each.wrong) for each in written)
-    last = count_line(notes, sum(each.wrong_products() for each in written))
+    wrong = sum(each.wrong_products() for each in written)
     came = read_summary(summary)
-    yield Outcome(f"{name}: the summary", (sum(notes_in(came).values()), came.last), (notes, last))
+    counts = notes_in(came), came.get(NOTES, 0), came.get(WRONG, 0)
+    yield Outcome(f"{name}: the summary", counts, (notes, notes, wrong))
     if feeds[0].summary is not None:
-        yield Outcome(f"{name}: the lines of the summary", summary, feeds[0].summary)
+        yield Outcome(f"{name}: the lines of the summary", came, read_summary(feeds[0].summary))
 
 
 # How many are converted together at most.

@@ -4,6 +4,7 @@ from typing import NamedTuple
 
 from tests.program.feeds.convert.case_files import FRAMES, SUPPLIER, said
 from tests.program.feeds.convert.running import FEED
+from tests.program.feeds.feed_notes import NOTES, PRODUCTS, WRONG as WRONG_ONES, summed
 from tests.program.room import Ran
 
 FRAME = FRAMES["products"]
@@ -115,9 +116,8 @@ CASES = [
             message_of("R2"),
             said(
                 [
-                    f"{FEED}:2:1: Product 1 (ISBN {ISBN}): Product left out: no RecordReference",
-                    "Product left out: no RecordReference: 1",
-                    "1 note, 1 product wrong",
+                    f"{FEED}:2:1: missing: Product left out: RecordReference missing",
+                    *summed({"Product left out: RecordReference ..": 1, PRODUCTS: 2, WRONG_ONES: 1, NOTES: 1}),
                 ]
             ),
         ),

@@ -8,7 +8,8 @@ from tests.program.feeds.convert.case_files import FRAMES, said
 from tests.program.feeds.convert.running import FEED, convert
 from tests.program.feeds.convert.limits import MOST
 from tests.program.feeds.convert.wanted_runs import DETAIL, ISBN, PRICE, PRODUCT, supplied
-from tests.program.feeds.feed_notes import count_line, counted
+from tests.program.feeds.feed_notes import NOTES, PRODUCTS, WRONG as WRONG_ONES, summed
+from tests.program.feeds.feed_oracle import EMPTIED
 from tests.program.room import Group, Ran, Room
 from tests.running import Outcome
 
@@ -41,11 +42,10 @@ def few(wrong: int, products: int, few_go: bool, none_go: bool, room: Room) -> I
     records = FRAME.records + "".join(f"Product,R{number},03,15,{ISBN}\n" for number in range(right))
     records += "".join(f"Product,W{number},03,15,{ISBN}\n" for number in range(wrong))
     records += f"EndMessage,{products + 1}\n"
-    notes = [
-        f"{FEED}:{right + number + 2}:1: W{number}: Product emptied: no NotificationType" for number in range(wrong)
-    ]
-    emptied = f"{wrong} of {counted(products, 'product')} emptied"
-    summary = [f"Product emptied: no NotificationType: {wrong}", emptied, count_line(wrong, wrong)] if wrong else []
+    why = "Product emptied: NotificationType"
+    notes = [f"{FEED}:{right + number + 2}:1: W{number}: {why} missing" for number in range(wrong)]
+    counts = {f"{why} ..": wrong, EMPTIED: wrong, PRODUCTS: products, WRONG_ONES: wrong, NOTES: wrong}
+    summary = summed(counts) if wrong else []
     written = Ran(1 if wrong else 0, records.encode(), said(notes + summary))
     for word, goes in [("", few_go), ("few", few_go), ("none", none_go), ("all", True)]:
         words = ["--wrong", word] if word else []

@@ -78,8 +78,7 @@ def over_a_restored_desk(room: Room) -> Iterator[Outcome]:
     for number in (1, 2):
         inbox.send(f"{number}.xml", feed_of(number, {"R1": f"{number}.00"}))
     inbox.run()
-    inbox.desk = FakeDesk()
-    inbox.desk.series["north"] = Series((*SENDER, *ADDRESSEE), 1)
+    inbox.begin_desk(ADDRESSEE)
     inbox.run()
     yield Outcome("its agreement is another one", (inbox.series.had, inbox.shown()["refused"]), ({}, 2))
     inbox.series.parties = (*SENDER, "", "")
@@ -94,8 +93,7 @@ def of_others(room: Room) -> Iterator[Outcome]:
         inbox = inbox_in(room, f"others {number}", number=number)
         for place in (1, 2):
             inbox.take(f"{place}.xml", feed_of(place, {"R1": f"{place}.00", f"S{place}": "1.00"}))
-        inbox.desk = FakeDesk()
-        inbox.desk.series["north"] = Series((*SENDER, *ADDRESSEE), 1)
+        inbox.begin_desk(ADDRESSEE)
         inbox.run()
         inbox.take("other.xml", feed_of(2, {"R1": "3.00"}))
         inbox.series.parties = (*SENDER, "", "")
@@ -133,9 +131,8 @@ def numbered_anew(room: Room) -> Iterator[Outcome]:
     inbox.decide("refuse", "quarantined")
     inbox.run()
     yield Outcome("the next number", ([*inbox.series.had], price_of(inbox, "R1")), ([1, 2], "4.600"))
-    for parties in (*SENDER, *ADDRESSEE), (*SENDER, "", ""):
-        inbox.desk = FakeDesk()
-        inbox.desk.series["north"] = Series(parties, 1)
+    for addressee in ADDRESSEE, ("", ""):
+        inbox.begin_desk(addressee)
         inbox.run()
     yield Outcome("posted again", ([*inbox.series.had], price_of(inbox, "R1")), ([1, 2], "4.600"))
 

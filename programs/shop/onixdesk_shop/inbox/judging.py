@@ -15,7 +15,7 @@ from onixdesk_shop.faults import Fault
 from onixdesk_shop.feeds import Refusal, Said, check, convert
 from onixdesk_shop.inbox import full, quarantine
 from onixdesk_shop.inbox.context import Inbox
-from onixdesk_shop.inbox.ledger import ROW, STANDING, File, Message, Row, State
+from onixdesk_shop.inbox.ledger import STANDING, File, Message, Row, State
 from onixdesk_shop.inbox.posting import REASONS, begin_again, give_back, why_refused
 from onixdesk_shop.inbox.quarantine import Quarantine
 from onixdesk_shop.lines import ERROR, NOTICE, WARNING, cut, ranges
@@ -231,9 +231,9 @@ def retry_refused(inbox: Inbox, gaps: Gaps) -> None:
     ledger = inbox.ledger
     ledger.retry_refused(inbox.basis(gaps.first))
     was_had = "answer LIKE '%\"other-contents\"%' OR answer LIKE '%\"waived\"%'"
-    query = f"{ROW} WHERE state = 'refused' AND ({was_had} OR answer LIKE '%\"held\"%' OR answer LIKE '%\"applied\"%')"
-    lacking = [row for row in map(Row._make, ledger.rows(query)) if row.has_text and gaps.lacks(row.number)]
-    if lacking:
+    was_taken = "answer LIKE '%\"held\"%' OR answer LIKE '%\"applied\"%'"
+    refused = ledger.messages(f"state = 'refused' AND text IS NOT NULL AND ({was_had} OR {was_taken})")
+    if lacking := [row for row in refused if gaps.lacks(row.number)]:
         with ledger.step():
             for row in lacking:
                 file = ledger.file(row.file)

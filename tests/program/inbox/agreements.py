@@ -1,6 +1,7 @@
 """Files whose sender and addressee are another series' of the desk, or nobody's, until the agreement is corrected."""
 
 from collections.abc import Iterator
+from contextlib import suppress
 from dataclasses import replace
 from typing import Any
 
@@ -10,6 +11,7 @@ from tests.program.inbox.files import inbox_in, price_of
 from tests.program.room import Room
 from tests.running import Outcome
 from tests.shop.fake_desk import FakeDesk, Series
+from tests.shop.fake_machine import FakeMachine, Killed
 from tests.shop.fake_program import SENDER, feed_of, message_of, product_of
 from tests.shop.inboxes import SHOP
 
@@ -135,6 +137,30 @@ def numbered_anew(room: Room) -> Iterator[Outcome]:
         inbox.begin_desk(addressee)
         inbox.run()
     yield Outcome("posted again", ([*inbox.series.had], price_of(inbox, "R1")), ([1, 2], "4.600"))
+
+
+def tried_again(room: Room) -> Iterator[Outcome]:
+    """What the desk took as it was tried again is final, also where the run dies then; and a number below a first one that was
+    wrong is tried again, too."""
+    inbox = inbox_in(room, "killed", number=NEXT)
+    parties, other = inbox.series.parties, (*SENDER, *ADDRESSEE)
+    inbox.series.parties = other
+    inbox.take("1.xml", feed_of(1, {"R1": "1.00"}))
+    inbox.series.parties = parties
+    with suppress(Killed):
+        inbox.run(FakeMachine(inbox.disk, inbox.desk, inbox.clock, ("kill", "answered", 2)))
+    yield Outcome("the desk took it", [*inbox.series.had], [1])
+    inbox.terms = b"50"
+    for inbox.series.parties in other, parties:
+        inbox.run()
+    yield Outcome("it is final", inbox.states(), {"1.xml": "applied"})
+    inbox = inbox_in(room, "first", words=("--parts", "2"))
+    inbox.series.parties = other
+    inbox.take("1.xml", feed_of(1, {"R1": "1.00", "R2": "2.00"}))
+    inbox.series.parties = parties
+    for inbox.series.first in 2, 1:
+        inbox.run()
+    yield Outcome("both halves", (inbox.states(), price_of(inbox, "R1")), ({"1.xml": "applied"}, "1.000"))
 
 
 def of_another_series(room: Room) -> Iterator[Outcome]:

@@ -227,12 +227,12 @@ def is_below_and_same(inbox: Inbox, row: Row, message: Message, gaps: Gaps) -> b
 
 def retry_refused(inbox: Inbox, gaps: Gaps) -> None:
     """What was refused by other settings, terms, agreement or program is judged anew, and what the desk had another message
-    or a waiver of, and lacks now."""
+    or a waiver of, or had no place for, and lacks now."""
     ledger = inbox.ledger
     ledger.retry_refused(inbox.basis(gaps.first))
-    was_had = "answer LIKE '%\"other-contents\"%' OR answer LIKE '%\"waived\"%'"
-    was_taken = "answer LIKE '%\"held\"%' OR answer LIKE '%\"applied\"%'"
-    refused = ledger.messages(f"state = 'refused' AND text IS NOT NULL AND ({was_had} OR {was_taken})")
+    reasons = "other-contents", "waived", "before-first", "held", "applied"
+    answers = " OR ".join(f"answer LIKE '%\"{reason}\"%'" for reason in reasons)
+    refused = ledger.messages(f"state = 'refused' AND text IS NOT NULL AND ({answers})")
     if lacking := [row for row in refused if gaps.lacks(row.number)]:
         with ledger.step():
             for row in lacking:

@@ -90,7 +90,7 @@ def settle_taken(inbox: Inbox, row: Row, answer: Taken) -> None:
 def settle_file(inbox: Inbox, file: File) -> None:
     """The state of a file by those of its messages."""
     states = [row.state for row in inbox.ledger.messages_of(file)]
-    if file.state in (State.REFUSED, State.REJECTED):
+    if file.state == State.REJECTED or State.REFUSED in states:
         return
     state = next((each for each in (State.POSTED, State.READY, State.HELD) if each in states), State.APPLIED)
     state = State.POSTING if state in (State.POSTED, State.READY) else state
@@ -130,9 +130,12 @@ def retry_unknown(inbox: Inbox, gaps: Gaps) -> None:
         file = ledger.file(row.file)
         if row.number < gaps.first or file.state != State.REFUSED or is_agreed and not ledger.is_final(file):
             continue
+        ledger.set_message(row.number, State.POSTED)
         if isinstance(inbox.desk.post(ledger.text(row.number)), Taken):
-            begin_again(inbox, file, row.number)
+            begin_again(inbox, file)
             is_agreed = True
+        else:
+            ledger.set_message(row.number, State.REFUSED)
     if is_agreed:
         judge_behind(inbox)
 
@@ -171,12 +174,12 @@ def post_unwaived(inbox: Inbox, gaps: Gaps) -> None:
                 ledger.forget_references(row.number)
 
 
-def begin_again(inbox: Inbox, file: File, taken: int = 0) -> None:
+def begin_again(inbox: Inbox, file: File) -> None:
     """Has all messages of a refused file posted again, of which the desk has taken one, or may take another one now."""
     with inbox.ledger.step():
         for row in inbox.ledger.messages_of(file):
             if row.state == State.REFUSED:
-                inbox.ledger.set_message(row.number, State.POSTED if row.number == taken else State.READY)
+                inbox.ledger.set_message(row.number, State.READY)
         inbox.ledger.set_state(file, State.POSTING)
 
 

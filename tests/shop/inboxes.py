@@ -62,10 +62,15 @@ class FakeInbox:
         self.shop: Shop | None = SHOP
         self.terms: bytes | None = None
         self.disk = Disk()
-        self.desk: FakeDesk | None = FakeDesk()
-        self.desk.series[SERIES] = Series((*SENDER, "", ""), 1)
+        self.desk: FakeDesk | None = None
+        self.begin_desk()
         self.clock = START
         self.lines: list[tuple[int, str]] = []
+
+    def begin_desk(self, addressee: tuple[str, str] = ("", ""), first: int = 1) -> None:
+        """A desk takes the place of another one, which has nothing but the agreement."""
+        self.desk = FakeDesk()
+        self.desk.series[SERIES] = Series((*SENDER, *addressee), first)
 
     @property
     def incoming(self) -> Path:

@@ -1,6 +1,7 @@
 """Files whose sender and addressee are another series' of the desk, or nobody's, until the agreement is corrected."""
 
 from collections.abc import Iterator
+from contextlib import suppress
 from dataclasses import replace
 from typing import Any
 
@@ -10,6 +11,7 @@ from tests.program.inbox.files import inbox_in, price_of
 from tests.program.room import Room
 from tests.running import Outcome
 from tests.shop.fake_desk import FakeDesk, Series
+from tests.shop.fake_machine import FakeMachine, Killed
 from tests.shop.fake_program import SENDER, feed_of, message_of, product_of
 from tests.shop.inboxes import SHOP
 
@@ -78,8 +80,7 @@ def over_a_restored_desk(room: Room) -> Iterator[Outcome]:
     for number in (1, 2):
         inbox.send(f"{number}.xml", feed_of(number, {"R1": f"{number}.00"}))
     inbox.run()
-    inbox.desk = FakeDesk()
-    inbox.desk.series["north"] = Series((*SENDER, *ADDRESSEE), 1)
+    inbox.begin_desk(ADDRESSEE)
     inbox.run()
     yield Outcome("its agreement is another one", (inbox.series.had, inbox.shown()["refused"]), ({}, 2))
     inbox.series.parties = (*SENDER, "", "")
@@ -94,8 +95,7 @@ def of_others(room: Room) -> Iterator[Outcome]:
         inbox = inbox_in(room, f"others {number}", number=number)
         for place in (1, 2):
             inbox.take(f"{place}.xml", feed_of(place, {"R1": f"{place}.00", f"S{place}": "1.00"}))
-        inbox.desk = FakeDesk()
-        inbox.desk.series["north"] = Series((*SENDER, *ADDRESSEE), 1)
+        inbox.begin_desk(ADDRESSEE)
         inbox.run()
         inbox.take("other.xml", feed_of(2, {"R1": "3.00"}))
         inbox.series.parties = (*SENDER, "", "")
@@ -133,11 +133,34 @@ def numbered_anew(room: Room) -> Iterator[Outcome]:
     inbox.decide("refuse", "quarantined")
     inbox.run()
     yield Outcome("the next number", ([*inbox.series.had], price_of(inbox, "R1")), ([1, 2], "4.600"))
-    for parties in (*SENDER, *ADDRESSEE), (*SENDER, "", ""):
-        inbox.desk = FakeDesk()
-        inbox.desk.series["north"] = Series(parties, 1)
+    for addressee in ADDRESSEE, ("", ""):
+        inbox.begin_desk(addressee)
         inbox.run()
     yield Outcome("posted again", ([*inbox.series.had], price_of(inbox, "R1")), ([1, 2], "4.600"))
+
+
+def tried_again(room: Room) -> Iterator[Outcome]:
+    """What the desk took as it was tried again is final, also where the run dies then; and a number below a first one that was
+    wrong is tried again, too."""
+    inbox = inbox_in(room, "killed", number=NEXT)
+    parties, other = inbox.series.parties, (*SENDER, *ADDRESSEE)
+    inbox.series.parties = other
+    inbox.take("1.xml", feed_of(1, {"R1": "1.00"}))
+    inbox.series.parties = parties
+    with suppress(Killed):
+        inbox.run(FakeMachine(inbox.disk, inbox.desk, inbox.clock, ("kill", "answered", 2)))
+    yield Outcome("the desk took it", [*inbox.series.had], [1])
+    inbox.terms = b"50"
+    for inbox.series.parties in other, parties:
+        inbox.run()
+    yield Outcome("it is final", inbox.states(), {"1.xml": "applied"})
+    inbox = inbox_in(room, "first", words=("--parts", "2"))
+    inbox.series.parties = other
+    inbox.take("1.xml", feed_of(1, {"R1": "1.00", "R2": "2.00"}))
+    inbox.series.parties = parties
+    for inbox.series.first in 2, 1:
+        inbox.run()
+    yield Outcome("both halves", (inbox.states(), price_of(inbox, "R1")), ({"1.xml": "applied"}, "1.000"))
 
 
 def of_another_series(room: Room) -> Iterator[Outcome]:

@@ -15,7 +15,7 @@ from onixdesk_shop.settings import NEXT
 from tests.program.room import Room
 from tests.running import Outcome
 from tests.shop import fake_program
-from tests.shop.fake_desk import WAIVED, FakeDesk, Series
+from tests.shop.fake_desk import WAIVED
 from tests.shop.fake_program import SENDER, feed_of, isbn_of, message_of, product_of
 from tests.shop.fake_machine import FakeMachine, Killed
 from tests.shop.inboxes import SERIES, START, FakeInbox
@@ -85,18 +85,14 @@ def numbers(room: Room) -> Iterator[Outcome]:
     inbox.series.first = 500
     inbox.take("a.xml", feed_of(None, {"R1": "1.00"}))
     yield Outcome("the first", sorted(inbox.series.had), [500])
-    assert inbox.desk
-    old = FakeDesk()
-    old.series[SERIES] = Series((*SENDER, "", ""), 500)
     inbox.take("b.xml", feed_of(None, {"R1": "2.00"}))
-    inbox.desk = old
+    inbox.begin_desk(first=500)
     inbox.take("c.xml", feed_of(None, {"R1": "3.00"}))
     yield Outcome("a desk of before", (sorted(inbox.series.had), price_of(inbox, "R1")), ([500, 501, 502], "3.000"))
     inbox.decide("refuse", "c.xml")
     inbox.run()
     yield Outcome("refused, it stays at the desk", price_of(inbox, "R1"), "3.000")
-    inbox.desk = old = FakeDesk()
-    old.series[SERIES] = Series((*SENDER, "", ""), 500)
+    inbox.begin_desk(first=500)
     inbox.run()
     yield Outcome(
         "and is waived once the desk lacks it", (inbox.series.had[502], price_of(inbox, "R1")), (WAIVED, "2.000")

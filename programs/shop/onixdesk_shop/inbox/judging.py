@@ -15,7 +15,7 @@ from onixdesk_shop.faults import Fault
 from onixdesk_shop.feeds import Refusal, Said, check, convert
 from onixdesk_shop.inbox import full, quarantine
 from onixdesk_shop.inbox.context import Inbox
-from onixdesk_shop.inbox.ledger import ROW, STANDING, File, Message, Row, State
+from onixdesk_shop.inbox.ledger import STANDING, File, Message, Row, State
 from onixdesk_shop.inbox.posting import REASONS, begin_again, give_back, why_refused
 from onixdesk_shop.inbox.quarantine import Quarantine
 from onixdesk_shop.lines import ERROR, NOTICE, WARNING, cut, ranges
@@ -227,13 +227,13 @@ def is_below_and_same(inbox: Inbox, row: Row, message: Message, gaps: Gaps) -> b
 
 def retry_refused(inbox: Inbox, gaps: Gaps) -> None:
     """What was refused by other settings, terms, agreement or program is judged anew, and what the desk had another message
-    or a waiver of, and lacks now."""
+    or a waiver of, or had no place for, and lacks now."""
     ledger = inbox.ledger
     ledger.retry_refused(inbox.basis(gaps.first))
-    was_had = "answer LIKE '%\"other-contents\"%' OR answer LIKE '%\"waived\"%'"
-    query = f"{ROW} WHERE state = 'refused' AND ({was_had} OR answer LIKE '%\"held\"%' OR answer LIKE '%\"applied\"%')"
-    lacking = [row for row in map(Row._make, ledger.rows(query)) if row.has_text and gaps.lacks(row.number)]
-    if lacking:
+    reasons = "other-contents", "waived", "before-first", "held", "applied"
+    answers = " OR ".join(f"answer LIKE '%\"{reason}\"%'" for reason in reasons)
+    refused = ledger.messages(f"state = 'refused' AND text IS NOT NULL AND ({answers})")
+    if lacking := [row for row in refused if gaps.lacks(row.number)]:
         with ledger.step():
             for row in lacking:
                 file = ledger.file(row.file)

@@ -182,8 +182,8 @@ class Ledger:
 
     def is_final(self, file: File) -> bool:
         """Whether a text of a file is final: the desk has it, or may have it, or one before took it."""
-        were_taken = any(row.state == State.REFUSED and row.was_taken for row in self.messages_of(file))
-        return were_taken or self.has_stood(file)
+        refused = [row for row in self.messages_of(file) if row.state == State.REFUSED]
+        return any(row.was_taken for row in refused) or self.has_stood(file)
 
     def set_state(self, file: File, state: str, why: str = "") -> None:
         now = int(self.machine.now())
@@ -236,13 +236,11 @@ class Ledger:
 
     def count_older_terms(self, terms: bytes | None) -> int:
         """The articles that were converted last with another table of terms than this."""
-        return int(
-            self.value(
-                "SELECT count(*) FROM reference JOIN message USING (number) JOIN file ON file.id = message.file"
-                " WHERE NOT deleted AND ending <> '.csv' AND file.terms IS NOT ?",
-                terms,
-            )
+        query = (
+            "SELECT count(*) FROM reference JOIN message USING (number) JOIN file ON file.id = message.file"
+            " WHERE NOT deleted AND ending <> '.csv' AND file.terms IS NOT ?"
         )
+        return int(self.value(query, terms))
 
     def agreement(
         self, series: str, sender: tuple[str, str], first: int | None = None, addressee: tuple[str, str] = ("", "")
@@ -255,12 +253,14 @@ class Ledger:
 
     # Messages
 
+    def messages(self, where: str, *values: Any) -> list[Row]:
+        return [Row(*row) for row in self.rows(f"{ROW} WHERE {where} ORDER BY number", *values)]
+
     def row(self, number: int) -> Row | None:
-        found = self.rows(f"{ROW} WHERE number = ?", number)
-        return Row(*found[0]) if found else None
+        return next(iter(self.messages("number = ?", number)), None)
 
     def messages_of(self, file: File) -> list[Row]:
-        return [Row(*row) for row in self.rows(f"{ROW} WHERE file = ? ORDER BY number", file.id)]
+        return self.messages("file = ?", file.id)
 
     def text(self, number: int) -> bytes:
         return zlib.decompress(self.value("SELECT text FROM message WHERE number = ?", number))
@@ -287,19 +287,17 @@ class Ledger:
     def to_post(self, gaps: Gaps) -> list[Row]:
         """What is to be posted, in order of numbers: what has no answer yet; what was held, and is no more; and what the
         desk had, and lacks. Nothing of a file that a person refused."""
-        query = (
-            f"{ROW} WHERE (state IN ('ready', 'posted') OR state = 'held' AND number >= ?"
-            " OR state = 'applied' AND number >= ?)"
-            " AND file NOT IN (SELECT id FROM file WHERE state = 'rejected') ORDER BY number"
+        where = (
+            "(state IN ('ready', 'posted') OR state = 'held' AND number >= ? OR state = 'applied' AND number >= ?)"
+            " AND file NOT IN (SELECT id FROM file WHERE state = 'rejected')"
         )
-        found = (Row(*row) for row in self.rows(query, gaps.first, gaps.next))
-        new = State.READY, State.POSTED
+        found, new = self.messages(where, gaps.first, gaps.next), (State.READY, State.POSTED)
         return [row for row in found if row.number < gaps.next or row.state in new or gaps.lacks(row.number)]
 
     def last_final(self) -> int:
         """The greatest number that its file has for good."""
-        rows = map(Row._make, self.rows(ROW))
-        return max((row.number for row in rows if row.was_taken or row.state in STANDING), default=0)
+        found = [row.number for row in self.messages("1") if row.was_taken or row.state in STANDING]
+        return max(found, default=0)
 
     def next_number(self, gaps: Gaps, parts: int) -> int:
         """The number that a new file gets: above all that are given, and all that the desk has, the first of a whole

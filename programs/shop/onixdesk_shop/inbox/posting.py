@@ -19,8 +19,6 @@ ROUNDS = 3
 QUICKER = "other-contents", "waived", "before-first"
 
 REASONS = {
-    "malformed": "row {row} of its records is malformed",
-    "unnumbered": "it has no MessageNumber",
     "unknown-series": "no series of its sender and addressee is agreed",
     "before-first": "number {number} is below the first number of the series, {first}",
     "waived": "number {number} was waived",
@@ -92,7 +90,7 @@ def settle_taken(inbox: Inbox, row: Row, answer: Taken) -> None:
 def settle_file(inbox: Inbox, file: File) -> None:
     """The state of a file by those of its messages."""
     states = [row.state for row in inbox.ledger.messages_of(file)]
-    if file.state in (State.REFUSED, State.REJECTED):
+    if file.state == State.REJECTED or State.REFUSED in states:
         return
     state = next((each for each in (State.POSTED, State.READY, State.HELD) if each in states), State.APPLIED)
     state = State.POSTING if state in (State.POSTED, State.READY) else state
@@ -126,17 +124,18 @@ def retry_unknown(inbox: Inbox, gaps: Gaps) -> None:
     """Posts again what no agreement was for, without a line: that the desk has another one by now shows in nothing else.
     Behind the first that it takes, what no desk took before is judged anew, there was nothing to compare it with."""
     ledger, is_agreed = inbox.ledger, False
-    query = (
-        "SELECT number, file FROM message WHERE state = 'refused' AND number >= ? AND text IS NOT NULL"
-        " AND file IN (SELECT id FROM file WHERE state = 'refused' AND why = ?) ORDER BY number"
-    )
-    for number, of_file in ledger.rows(query, gaps.first, REASONS["unknown-series"]):
-        file = ledger.file(of_file)
-        if file.state != State.REFUSED or is_agreed and not ledger.is_final(file):
+    files = "file IN (SELECT id FROM file WHERE state = 'refused' AND why = ?)"
+    refused = ledger.messages(f"state = 'refused' AND text IS NOT NULL AND {files}", REASONS["unknown-series"])
+    for row in refused:
+        file = ledger.file(row.file)
+        if row.number < gaps.first or file.state != State.REFUSED or is_agreed and not ledger.is_final(file):
             continue
-        if isinstance(inbox.desk.post(ledger.text(number)), Taken):
-            begin_again(inbox, file, number)
+        ledger.set_message(row.number, State.POSTED)
+        if isinstance(inbox.desk.post(ledger.text(row.number)), Taken):
+            begin_again(inbox, file)
             is_agreed = True
+        else:
+            ledger.set_message(row.number, State.REFUSED)
     if is_agreed:
         judge_behind(inbox)
 
@@ -164,25 +163,23 @@ def give_back(inbox: Inbox, file: File) -> None:
 def post_unwaived(inbox: Inbox, gaps: Gaps) -> None:
     """Posts again what came to a number whose waiver was taken back: that a desk from before has it again shows in nothing
     else."""
-    ledger = inbox.ledger
-    for number in ledger.waived(Decision.UNWAIVE):
-        row = ledger.row(number)
-        stands = row and row.has_text and ledger.stands(number, (State.HELD, State.APPLIED))
-        if not row or not stands or number < gaps.first or gaps.lacks(number):
+    ledger, unwaived = inbox.ledger, inbox.ledger.waived(Decision.UNWAIVE)
+    for row in ledger.messages("state IN ('held', 'applied') AND text IS NOT NULL AND number >= ?", gaps.first):
+        if row.number not in unwaived or gaps.lacks(row.number) or not ledger.stands(row.number):
             continue
-        answer = inbox.desk.post(ledger.text(number))
+        answer = inbox.desk.post(ledger.text(row.number))
         if isinstance(answer, Refused):
             with ledger.step():
                 settle_refused(inbox, row, answer)
-                ledger.forget_references(number)
+                ledger.forget_references(row.number)
 
 
-def begin_again(inbox: Inbox, file: File, taken: int = 0) -> None:
+def begin_again(inbox: Inbox, file: File) -> None:
     """Has all messages of a refused file posted again, of which the desk has taken one, or may take another one now."""
     with inbox.ledger.step():
         for row in inbox.ledger.messages_of(file):
             if row.state == State.REFUSED:
-                inbox.ledger.set_message(row.number, State.POSTED if row.number == taken else State.READY)
+                inbox.ledger.set_message(row.number, State.READY)
         inbox.ledger.set_state(file, State.POSTING)
 
 
@@ -190,22 +187,17 @@ def settle_rejected(inbox: Inbox, gaps: Gaps) -> None:
     """What a person refused and the desk lacks stands nowhere any more; where the inbox gives the numbers, these are
     waived, so that nothing waits for them."""
     ledger = inbox.ledger
-    query = (
-        "SELECT number, file FROM message WHERE (state IN ('ready', 'posted', 'held', 'applied')"
-        " OR state = 'refused' AND number NOT IN (SELECT number FROM decision WHERE what = 'waive'))"
-        " AND file IN (SELECT id FROM file WHERE state = 'rejected')"
-    )
-    for number, of_file in ledger.rows(query):
-        if not gaps.lacks(number):
-            continue
-        file = ledger.file(of_file)
+    is_over = "state = 'returned' OR state = 'refused' AND number IN (SELECT number FROM decision WHERE what = 'waive')"
+    rows = ledger.messages(f"NOT ({is_over}) AND file IN (SELECT id FROM file WHERE state = 'rejected')")
+    for row in [row for row in rows if gaps.lacks(row.number)]:
+        file = ledger.file(row.file)
         is_given = inbox.settings.gives_number(file.ending)
         with ledger.step():
-            ledger.set_message(number, State.REFUSED if is_given else State.RETURNED)
-            ledger.forget_references(number)
+            ledger.set_message(row.number, State.REFUSED if is_given else State.RETURNED)
+            ledger.forget_references(row.number)
             ledger.retry_refused()
             if is_given:
-                ledger.decide(Decision.WAIVE, file, number)
+                ledger.decide(Decision.WAIVE, file, row.number)
 
 
 def waive(inbox: Inbox, gaps: Gaps) -> Gaps:

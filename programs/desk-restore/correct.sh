@@ -30,12 +30,12 @@ cd "$work"
 [ ! -e "${desk%/*}/.${desk##*/}.work" ] || desk-restore --yes none || :
 desk-copy "$desk" before
 onixdesk --db "before/${desk##*/}" --existing export >before.csv
-next=$(onixdesk --db "before/${desk##*/}" --existing gaps | sed -n 's/^gaps,\([^,]*\),.*,\(next=[0-9]*\),.*/\1 \2, /p')
+next=$(onixdesk --db "before/${desk##*/}" --existing gaps | sed -n 's/^gaps,\([^,]*\),.*,\(next=[0-9]*\),.*/\1 \2,/p')
 sed "$@" before.csv >after.csv
 diff before.csv after.csv >changes || [ $? -eq 1 ]
 [ -s changes ] || complain "no line of its text changes"
 grep '^[<>]' changes | head -n 20 | cut -c 1-200
 echo "$(grep -c '^[<>]' changes) lines differ${mark:+; $mark of $series is refused after the yes}"
-desk-restore ${mark:+--refuse "$mark" "$series"} --said "$next$said" --text after.csv before || status=$?
+desk-restore ${mark:+--refuse "$mark" "$series"} --said "$(echo $next) $said" --text after.csv before || status=$?
 systemctl start onixdesk-copy.service
 exit "${status:-0}"

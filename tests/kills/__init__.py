@@ -10,13 +10,13 @@ from tests.kills.of_programs import OfCorrection, OfPrices, OfRenewal
 from tests.kills.scenarios import Judged, Scenario, at_each_call, by_chance
 from tests.program.room import Room
 
-AT_EACH_CALL: dict[str, Callable[[Room], Scenario]] = {"inbox": OfInbox, "copy": OfCopy, "restore": OfRestore}
-BY_CHANCE: dict[str, Callable[[Room], Scenario]] = {
-    "renewal": OfRenewal,
+AT_EACH_CALL: dict[str, Callable[[Room], Scenario]] = {
+    "inbox": OfInbox,
+    "copy": OfCopy,
+    "restore": OfRestore,
     "correction": OfCorrection,
-    "prices": OfPrices,
-    "fetch": OfFetch,
 }
+BY_CHANCE: dict[str, Callable[[Room], Scenario]] = {"renewal": OfRenewal, "prices": OfPrices, "fetch": OfFetch}
 
 NAMES = [*AT_EACH_CALL, *BY_CHANCE]
 

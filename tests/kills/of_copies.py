@@ -105,7 +105,7 @@ class OfRestore(Scenario):
             self.room.write(f"desk/{name}", data)
 
     def words(self) -> Sequence[Word]:
-        places = [f"--{name}=none" for name in ("inboxes", "settings", "copies")]
+        places = [f"--{name}=none" for name in ("inboxes", "settings")]
         # What the desk has beyond the copy was posted by hand.
         return [ROOT / "bin/desk-restore", "--db", f"desk/{DATABASE}", *places, "--gaps", "--yes", "copy"]
 

@@ -105,30 +105,33 @@ class OfRenewal(OfRestore):
 
 
 class OfCorrection(OfRenewal):
-    """The second message is taken out of a desk's text, on a machine where no unit runs."""
+    """The restore in which correct.sh takes the second message out of a desk, on a machine where no unit runs; what is
+    run then is correct.sh."""
 
     def __init__(self, room: Room) -> None:
         super().__init__(room)
-        room.path("tmp").mkdir()
         batch(room, (AGREEMENTS + message(NORTH, 1, *product("R1"))).encode())
+        room.write("after.csv", room.run("--db", DATABASE, "export").output)
         self.moved("wanted")
         self.wanted = self.rows_in("wanted")
-        places = f"--db={room.path('desk')}/{DATABASE} --inboxes=none --settings=none"
+        self.restore = (
+            f"{ROOT}/bin/desk-restore --db={room.path('desk')}/{DATABASE} --inboxes=none --settings=none --yes"
+        )
         self.script("onixdesk", f'exec "{room.program}" "$@"')
         self.script("desk-copy", f'exec "{ROOT}/bin/desk-copy" "$@"')
-        self.script("desk-restore", f'exec "{ROOT}/bin/desk-restore" {places} --yes "$@"')
+        self.script("desk-restore", f'exec {self.restore} "$@"')
         text = ROOT.joinpath("programs/desk-restore/correct.sh").read_text(encoding="utf-8")
         text = text.replace("/var/lib/onixdesk/shop.db", f"{room.path('desk')}/{DATABASE}")
-        self.script("correct", text.partition("\n")[2].replace("/var/tmp/", f"{room.path('tmp')}/"))
+        self.script("correct", text.partition("\n")[2].replace("/var/tmp/", f"{room.folder}/"))
 
     def words(self) -> Sequence[Word]:
-        return [self.room.path("programs/correct"), "/^Message,2,06,N,06,S,2,/,/^EndMessage,/d"]
+        return [*self.restore.split(), "--text", "after.csv", "before"]
 
     def is_sound(self) -> bool:
         return self.rows_in("desk") in (self.rows, self.wanted)
 
     def wrong_at_end(self) -> Iterator[str]:
-        """Where it had done all, it finds no line that changes."""
-        yield from super().wrong_at_end()
-        if self.rows_in("desk") != self.wanted:
-            yield "what stands there is not corrected"
+        take_out = "/^Message,2,06,N,06,S,2,/,/^EndMessage,/d"
+        ran = run_again(self.room, [self.room.path("programs/correct"), take_out], self.environment())
+        if ran.status != self.status or self.rows_in("desk") != self.wanted or self.old not in self.befores():
+            yield f"{ran}: there is {os.listdir(self.room.path('desk'))}"

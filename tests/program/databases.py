@@ -117,45 +117,6 @@ def forty_messages_backwards(room: Room) -> Iterator[Outcome]:
     yield Outcome("forty messages: the gaps", gaps(room), Ran(0, report))
 
 
-def an_empty_file(room: Room) -> Iterator[Outcome]:
-    """It counts as an empty database."""
-    room.write(DATABASE, b"")
-    asked = b"""\
-Agree,north,06,4012345000009,06,5012345678900,1
-Message,1,06,4012345000009,06,5012345678900,1,1,20250301,,
-Product,R1,03,15,9781234567897
-ProductSupply,GB IE,,
-SupplyDetail,04,06,4012345000009,North Books,21,
-EndMessage,4
-AskCatalogue,north
-"""
-    answers = b"""\
-agreed,north,1
-applied,north,1,replaced=1,updated=0,deleted=0,unknown=0,ignored=0
-catalogue,north,1
-record,R1,15,9781234567897
-ProductSupply,GB IE,,
-SupplyDetail,04,06,4012345000009,North Books,21,
-"""
-    yield Outcome("an empty file: a batch", batch(room, asked), Ran(0, answers))
-    report = b"gaps,north,first=1,next=2,greatest=1,held=0,missing=0\n"
-    yield Outcome("an empty file: the gaps then", gaps(room), Ran(0, report))
-
-
-def beside_another_table(room: Room) -> Iterator[Outcome]:
-    """A database without a desk's tables counts as empty, and what else it holds stays."""
-    execute(
-        room,
-        "CREATE TABLE book (title TEXT PRIMARY KEY); CREATE TABLE copy (title TEXT REFERENCES book);"
-        "INSERT INTO book VALUES ('north'); INSERT INTO copy VALUES ('north');",
-    )
-    came = batch(room, AGREEMENT)
-    yield Outcome("beside another table: a batch", came, Ran(0, AGREED))
-    kept = rows(room, "SELECT * FROM book, copy")
-    came = numbers(room, VERSION), kept, complaints(room)
-    yield Outcome("beside another table: what is kept", came, ([2], [("north", "north")], []))
-
-
 META = "CREATE TABLE meta (item TEXT PRIMARY KEY, amount INTEGER);"
 
 # Statements that make a database, and what the program says of it.

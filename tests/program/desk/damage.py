@@ -53,31 +53,4 @@ def check(damage: str, repair: str, asked: bytes, answers: bytes, room: Room) ->
     yield Outcome(f"repaired: {damage}", batch(room, asked), Ran(0, answers))
 
 
-# Offers of the record R1 at the places from that one to another, as its first offer.
-OFFERS = """\
-INSERT INTO offer
-    WITH RECURSIVE numbers (n) AS (VALUES ({first}) UNION ALL SELECT n + 1 FROM numbers WHERE n < {last})
-    SELECT series, reference, n, supply, included, world, excluded, role, supplier_type, supplier_value,
-        supplier_name, availability, unpriced
-    FROM offer, numbers WHERE place = 1"""
-
-# The most offers that a record has.
-MOST = 20_000
-
-
-def most_offers(room: Room) -> Iterator[Outcome]:
-    """A record of 20,000 offers is read back, and one of more is of no message."""
-    first, first_answers = BEFORE
-    yield Outcome("before many offers", batch(room, first), Ran(0, first_answers))
-
-    asked, answers = QUESTIONS["the catalogue"]
-    offer = b"SupplyDetail,04,06,4012345000009,North Books,21,\n"
-    most = answers + offer * (MOST - 1)
-    execute(room, OFFERS.format(first=2, last=MOST))
-    yield Outcome("20,000 offers", batch(room, asked), Ran(0, most))
-
-    execute(room, OFFERS.format(first=MOST + 1, last=MOST + 1))
-    yield Outcome("20,001 offers", batch(room, asked), FAULT)
-
-
 GROUPS = [Group(damage, partial(check, damage, repair, *QUESTIONS[name])) for damage, repair, name in CASES]

@@ -37,12 +37,6 @@ def is_a_link_to_nothing(room: Room) -> Iterator[Outcome]:
     yield Outcome("a link to nothing: the folder then", names, [DATABASE])
 
 
-def rules_come_first(room: Room) -> Iterator[Outcome]:
-    came = room.run(*EXISTING, "--rules", "absent.toml", "batch", given=UNREADABLE)
-    wanted = Ran(2, b"", b"onixdesk: file: absent.toml\n")
-    yield Outcome("rules before a missing database", came, wanted)
-
-
 def is_there(room: Room) -> Iterator[Outcome]:
     """Each command does what it does without the option. An empty file is there too."""
     room.write(DATABASE, b"")
@@ -61,12 +55,6 @@ def is_there(room: Room) -> Iterator[Outcome]:
         found = desk.reply([question.input]), desk.ended()
         yield Outcome("a database that is there: serve", found, (question.reply(), desk.wanted(["200"])))
     yield Outcome("a database that is there: the file then", complaints(room), [])
-
-
-def an_empty_file_is_migrated(room: Room) -> Iterator[Outcome]:
-    room.write(DATABASE, b"")
-    came = room.run(*EXISTING, "migrate", given=UNREADABLE)
-    yield Outcome("an empty file that is there: migrate", came, Ran(0, b"migrated\n"))
 
 
 GROUPS = [Group(f"missing: {command}", partial(is_missing, command)) for command in COMMANDS]

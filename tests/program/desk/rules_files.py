@@ -67,8 +67,6 @@ def cannot_be_tried(room: Room) -> Iterator[Outcome]:
     yield Outcome("rules: a full output", room.run("rules", "rules.toml", is_full=True), wanted)
     came = room.run("--db", "shop.db", "--rules", "absent.toml", "rules", "rules.toml")
     yield Outcome("rules: behind other options", came, Ran(0, b"rules 1\n"))
-    wanted = Ran(2, b"", b"onixdesk: --batches goes with batch\n")
-    yield Outcome("rules: at a socket", room.run("--batches", "socket", "rules", "rules.toml"), wanted)
     names = [path.name for path in room.folder.iterdir()]
     yield Outcome("rules: no desk is opened", names, ["rules.toml"])
 

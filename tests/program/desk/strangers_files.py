@@ -69,4 +69,12 @@ def is_begun(room: Room) -> Iterator[Outcome]:
     yield Outcome("one byte beside a log", came, Ran(0, AGREED))
 
 
+def a_log_of_somebody(room: Room) -> Iterator[Outcome]:
+    """A new desk overwrites what has the name of its log."""
+    room.write(f"{DATABASE}-wal", b"notes of somebody\n" * 20)
+    came = room.run("--db", DATABASE, "batch", given=AGREEMENT)
+    is_kept = room.path(f"{DATABASE}-wal").read_bytes().startswith(b"notes")
+    yield Outcome("somebody's file with the name of a log", (came, is_kept), (Ran(0, AGREED), False))
+
+
 GROUPS = [Group(f"no database: {name}", partial(is_refused, name, contents)) for name, contents in FILES.items()]

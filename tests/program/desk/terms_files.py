@@ -86,18 +86,12 @@ def tables_that_are_no_toml(room: Room) -> Iterator[Outcome]:
         yield Outcome(f"terms: {name}: the cause", (cause != b"", b"\n" in cause), (True, False))
 
 
-def tables_that_cannot_be_read(room: Room) -> Iterator[Outcome]:
-    for file in "absent.toml", ".":
-        wanted = Ran(2, b"", f"onixdesk: file: {file}\n".encode())
-        yield Outcome(f"terms: {file}", room.run("terms", file), wanted)
-        yield Outcome(f"convert by terms: {file}", room.run("convert", "--terms", file), wanted)
+def what_else_it_reads(room: Room) -> Iterator[Outcome]:
     room.write("north.toml", TERM)
     full = room.run("terms", "north.toml", is_full=True)
     yield Outcome("terms: a full output", full, Ran(3, b"", b"onixdesk: output\n"))
     came = room.run("--db", "shop.db", "--rules", "absent.toml", "terms", "north.toml")
     yield Outcome("terms: behind other options", came, Ran(0, b"terms 1\n"))
-    line = b"onixdesk: --batches goes with batch\n"
-    yield Outcome("terms: at a socket", room.run("--batches", "socket", "terms", "north.toml"), Ran(2, b"", line))
     room.write("-", TERM)
     yield Outcome("terms: a file of the name -", room.run("terms", "-", given=UNREADABLE), Ran(0, b"terms 1\n"))
     for words in (), ("north.toml", "north.toml"):

@@ -82,14 +82,15 @@ def mails_are_sent(room: Room) -> Iterator[Outcome]:
 
 
 def an_unusable_storage(room: Room) -> Iterator[Outcome]:
-    """The desk itself has its file open; then there is a database of another program."""
+    """The desk itself has its file open; then there are a database of another program, a text, and nothing."""
     lines = block_with(PAGE, "namei -l $file")
     with machine(room, AGREED) as desk:
         pid = room.path("pid").read_text().strip()
         found = desk.run(lines)
         shown = found.output.decode()
         yield Outcome(f"{PAGE}: a desk", (found.status, f"/proc/{pid}/fd/" in shown), (0, True))
-        yield Outcome(f"{PAGE}: its file", ("shop.db" in shown, "SQLite format 3" in shown), (True, True))
+        owners = [line.split()[1] for line in shown.splitlines() if line.endswith(" shop.db")]
+        yield Outcome(f"{PAGE}: its file", ("SQLite format 3" in shown, owners), (True, [room.path(DESK).owner()]))
         yield Outcome(f"{PAGE}: what was tried is gone", room.path("var/tmp/tried").exists(), False)
     for path in room.path(DESK).parent.iterdir():
         path.unlink()
@@ -97,6 +98,9 @@ def an_unusable_storage(room: Room) -> Iterator[Outcome]:
         connection.execute("CREATE TABLE other (a)")
     found = desk.run(lines)
     yield Outcome(f"{PAGE}: no desk", (found.status, b"a copy of it is not sound" in found.errors), (1, True))
+    room.write(DESK, b"no database" * 1000)
+    shown = desk.run(lines).output.decode()
+    yield Outcome(f"{PAGE}: no database", ("SQLite format 3" in shown, "no database" in shown), (False, True))
     room.path(DESK).unlink()
     found = desk.run(lines)
     yield Outcome(f"{PAGE}: no file", b"No such file or directory" in found.output + found.errors, True)

@@ -4,7 +4,6 @@ import argparse
 from pathlib import Path
 
 from onixdesk_shop.ends import parser_of
-from onixdesk_shop.copies.keeping import corrections_since
 from onixdesk_shop.faults import DONE, FAILED, Failed, Fault
 from onixdesk_shop.lines import ERROR, WARNING
 from onixdesk_shop.machine import Machine
@@ -44,11 +43,6 @@ def command_line() -> argparse.ArgumentParser:
 
 def work(machine: Machine, options: argparse.Namespace) -> int:
     options.copy = options.copy.resolve()
-    made = corrections_since(machine, options.db.parent, options.copy)
-    if made and not options.before_correction:
-        raise Failed(f"{options.copy}: it is from before a correction (--before-correction): {made[0]}")
-    for line in made:
-        machine.tell(WARNING, f"has to be made again: {line}")
     return put(machine, Restore(machine, options), options.yes)
 
 

@@ -5,7 +5,7 @@ import io
 
 from onixdesk_shop.batches import send
 from onixdesk_shop.copies.copying import copied
-from onixdesk_shop.copies.keeping import CORRECTIONS, corrections_in, is_name, named
+from onixdesk_shop.copies.keeping import CORRECTIONS, corrections_in, corrections_since, is_name, named
 from onixdesk_shop.desk_files import Contents, DeskFile, check, contents_of
 from onixdesk_shop.ends import program_of
 from onixdesk_shop.faults import Failed, Fault
@@ -38,6 +38,11 @@ class Restore:
     def lay_out(self) -> None:
         """Failed where the copy, or the desk that its corrected text makes, is not sound."""
         machine, options, name = self.machine, self.options, self.options.db.name
+        made = corrections_since(machine, options.db.parent, options.copy)
+        if made and not options.before_correction:
+            raise Failed(f"{options.copy}: it is from before a correction (--before-correction): {made[0]}")
+        for line in made:
+            machine.tell(WARNING, f"has to be made again: {line}")
         # SQLite leaves the third where somebody has looked at a copy.
         found = {entry.name for entry in machine.entries(options.copy)} - {f"{name}-shm", LEDGERS, CORRECTIONS}
         if name not in found or found - {name, f"{name}-wal"}:

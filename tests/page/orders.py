@@ -119,7 +119,7 @@ def marks(site: PlainSite, browser: Browser) -> Iterator[Outcome]:
     reasons = ["no ISBN", "no number of copies", "copies are a whole number from 1 to 9999"]
     yield Outcome("marks: why", told, [f"Line {at}: {reason}" for at, reason in enumerate(reasons, 2)])
     browser.one("#get-orders").click()
-    wanted = "Lines that order nothing stand there: put them right, or strike them out. Nothing is saved."
+    wanted = "Some lines order nothing: put them right, or strike them out. Nothing is saved."
     yield Outcome("marks: nothing is saved", status(browser, "Nothing is saved"), wanted)
     keys = Keyboard(browser)
     before = lines(browser)
@@ -206,7 +206,7 @@ def tables(site: PlainSite, browser: Browser) -> Iterator[Outcome]:
     fields = [browser.one(f"#{name}-column").get_attribute("value") for name in ("isbn", "copies")]
     yield Outcome("table: both fields are empty", fields, ["", ""])
     yield Outcome("table: ten rows of it", len(browser.all("#table-rows tbody tr")), 10)
-    told = "Not shown are rows with another number of cells (1): they become lines to put right."
+    told = "Rows with another number of cells (1) are not shown: they become lines to put right."
     yield Outcome("table: what is not shown", browser.text("#table-others"), told)
     offered = "return [...document.getElementById('copies-column').options].map((option) => option.text)"
     columns = ["", f"1: ISBN, {isbn_of(0)}", "2: Title, Title; 0", "3: Qty, 12", "4: Buy, 0"]

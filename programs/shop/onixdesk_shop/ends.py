@@ -15,8 +15,8 @@ from onixdesk_shop.lines import ERROR, token
 from onixdesk_shop.machine import Machine
 
 STATUSES = """\
-Status 0; 1 if what was asked for is not so, or a line of priority error was written; 2 if the command line or a file of
-settings is wrong; 3 if a file, the desk or another program fails. The documents of the package have the rest."""
+Status 0; 1 if the answer is no, or a line of priority error was written; 2 if the command line or a file of settings is
+wrong; 3 if a file, the desk or another program fails. The documents of the package have the rest."""
 
 
 def parser_of(program: str, description: str, /, **paths: Path | None) -> argparse.ArgumentParser:

@@ -14,9 +14,9 @@ from onixdesk_shop.machine import Machine
 from onixdesk_shop.places import LEDGER, LEDGERS
 
 DESCRIPTION = """\
-Copies a desk whose program goes on answering: the database FILE and its log FILE-wal, as both were at one moment,
-under their names into a new FOLDER. All that the desk had answered when the copy began is in it. The copy is checked by
-SQLite, and FOLDER exists only once it is whole, sound and on the disk. With --inboxes it has their ledgers too."""
+Copies a running desk: the database FILE and its log FILE-wal, both as of one moment, under their names into a new
+FOLDER. It has all that the desk had answered when the copy began. SQLite checks the copy, and FOLDER appears only once
+it is complete, sound and on the disk. With --inboxes it has the ledgers of the inboxes too."""
 
 # LimitDATA of the desk's unit.
 LIMIT = 1800 << 20
@@ -28,7 +28,7 @@ OF_ITS_OWN, FOR_A_BYTE = 16_000_000, 1.1
 def command_line() -> argparse.ArgumentParser:
     parser = parser_of("desk-copy", DESCRIPTION, inboxes=None)
     add = parser.add_argument
-    help_of_keep = "FOLDER has a folder for each copy, named by its second; all but the latest N are removed at the end"
+    help_of_keep = "FOLDER has a folder for each copy, named by its second; N stay: all but the last of a day go first"
     add("--keep", metavar="N", type=int, help=help_of_keep)
     add("file", metavar="FILE", type=Path, help="the database that the desk has open")
     add("folder", metavar="FOLDER", type=Path, help="a folder that does not exist yet; with --keep one that does")

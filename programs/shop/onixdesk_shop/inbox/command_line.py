@@ -21,13 +21,13 @@ from onixdesk_shop.settings import Settings, is_series, read_settings, terms_of
 from onixdesk_shop.shop_json import Shop, read_shop
 
 DESCRIPTION = """\
-Takes the files of a wholesaler's folder to a running desk, once each, in order:
+Posts the files of a wholesaler's folder to a running desk, once each, in order:
     onixdesk-inbox SERIES
     onixdesk-inbox --let-in MARK | --refuse MARK | --dismiss MARK | --again MARK SERIES
     onixdesk-inbox waive SERIES NUMBER | FIRST-LAST
     onixdesk-inbox show SERIES --number N | --isbn ISBN | --file NAME
     onixdesk-inbox report SERIES
-A MARK is the first letters of the digest of a file, as the lines have it."""
+MARK is the beginning of the digest of a file, as the lines of an inbox have it."""
 
 PATHS = {
     "settings": INBOX_SETTINGS,

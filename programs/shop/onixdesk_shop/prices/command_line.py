@@ -19,8 +19,8 @@ from onixdesk_shop.shop_json import Shop, read_shop
 
 DESCRIPTION = """\
 Writes a line for each article that a series offers into FOLDER/prices.csv: from which wholesaler the shop buys it, at
-what price, and its recommended price. Each answer is the desk's own, of a copy that is taken before, so that nobody
-waits. The file of before stays beside it, as prices.before.csv; after a fault it is as it was."""
+what price, and its recommended price. The desk's own program answers from a copy, so nobody waits. The earlier file
+stays beside it, as prices.before.csv; after a fault both are as they were."""
 
 FILE, BEFORE = "prices.csv", "prices.before.csv"
 

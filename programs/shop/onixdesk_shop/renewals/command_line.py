@@ -9,10 +9,10 @@ from onixdesk_shop.restores.command_line import PATHS, put
 from onixdesk_shop.restores.placing import Work
 
 DESCRIPTION = """\
-Puts a new desk in place, without the messages that were applied: its series begin with the numbers that their
-catalogues need before the next one. It is made of a copy while the desk answers. What is given up is said first, and
-asked for; what the inboxes took meanwhile they post again. The old files stay beside it. If no line says that the new
-desk is in place, the old one is. After a kill the same command ends what was begun."""
+Replaces the desk by one without the messages that were applied: its series begin with the numbers that their
+catalogues need before the next one. It is made of a copy while the desk answers. The command says first what is given
+up, and asks; the inboxes post again what they took meanwhile. The old files stay beside the desk. If no line says that
+the new desk is in place, the old one is. After a kill, run the same command again."""
 
 
 def command_line() -> argparse.ArgumentParser:

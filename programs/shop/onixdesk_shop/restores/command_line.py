@@ -15,11 +15,11 @@ from onixdesk_shop.units import DESK, Units
 PATHS = {"db": DESK_FILE, "inboxes": INBOXES, "settings": INBOX_SETTINGS, "program": PROGRAM}
 
 DESCRIPTION = """\
-Puts COPY, a folder that desk-copy made, into the place of the desk, whose own files get another name. The copy is
-checked by SQLite and by the desk's program. What the inboxes post again is said, with the command by which each file is
-refused, and asked for; agreements and waivers that the desk has and the copy lacks are made again. Then what runs of
-onixdesk is stopped, two files get their places, and it is started again, until the desk has again what the inboxes post.
-After a kill the same command ends what was begun."""
+Replaces the desk by COPY, a folder that desk-copy made; the desk's own files get another name. SQLite and the desk's
+program check the copy. It lists what the inboxes will post again, each file with the command that refuses it, and asks;
+agreements and waivers that the desk has and the copy lacks are made again. Then it stops the units of onixdesk that
+run, puts the two files in place, starts the units, and waits until the inboxes have posted everything again.
+After a kill, run the same command again."""
 
 
 def command_line() -> argparse.ArgumentParser:
@@ -29,14 +29,14 @@ def command_line() -> argparse.ArgumentParser:
     add("--yes", action="store_true", help="asks nothing")
     add("--gaps", action="store_true", help="accepts a copy that lacks messages which no inbox can post again")
     add("--before-correction", action="store_true", help="accepts a copy from before a correction of the desk's text")
-    add("--text", metavar="FILE", type=Path, help="puts a desk into place that is made of this corrected text of COPY")
+    add("--text", metavar="FILE", type=Path, help="puts a desk in place that is made from this corrected text of COPY")
     add(
         "--said",
         metavar="TEXT",
         default="what was refused is left out",
         help="what was corrected, for the file corrections beside it",
     )
-    add("--refuse", metavar=("MARK", "SERIES"), nargs=2, help="has the inbox refuse this file, once you said yes")
+    add("--refuse", metavar=("MARK", "SERIES"), nargs=2, help="has the inbox refuse this file once you answered yes")
     add("copy", metavar="COPY", type=Path, help="a folder with the two files of a desk, of the name of the desk's")
     return parser
 

@@ -9,6 +9,7 @@ use desk_texts::request_rows::read_requests;
 use onix_terms::code::{Code2, Country, Currency};
 use onix_terms::day::Day;
 use onix_terms::isbn13::Isbn13;
+use onix_terms::items::Items;
 use onix_terms::quantity::Quantity;
 use onix_terms::series_name::SeriesName;
 use price_rules::calendar::{CalendarFault, Span, calendar};

@@ -191,7 +191,9 @@ class Model(RuleBasedStateMachine):
         self.run()
         self.inbox.desk = desk
         assert not self.inbox.shown()["desk"]
-        assert self.inbox.settings.leave or not os.listdir(self.inbox.incoming), self.inbox.lines
+        # Bytes that came twice may be passed over once.
+        left = {digest_of(path.read_bytes()) for path in self.inbox.incoming.iterdir()}
+        assert left <= {file.digest for file in self.inbox.files()}, self.inbox.lines
 
     @rule(what=st.sampled_from(STEPS), place=st.integers(1, 8))
     def run_with_closed_output(self, what: str, place: int) -> None:

@@ -74,21 +74,6 @@ def without_one(room: Room) -> Iterator[Outcome]:
     yield Outcome("its line", (line.partition(";")[0], inbox.run()), (f"Agree,north,{theirs},1", []))
 
 
-def over_a_restored_desk(room: Room) -> Iterator[Outcome]:
-    """A desk from before a correction of the agreement has all once that is made again."""
-    inbox = inbox_in(room, "restored")
-    for number in (1, 2):
-        inbox.send(f"{number}.xml", feed_of(number, {"R1": f"{number}.00"}))
-    inbox.run()
-    inbox.begin_desk(ADDRESSEE)
-    inbox.run()
-    yield Outcome("its agreement is another one", (inbox.series.had, inbox.shown()["refused"]), ({}, 2))
-    inbox.series.parties = (*SENDER, "", "")
-    inbox.run()
-    yield Outcome("corrected again", (sorted(inbox.series.had), price_of(inbox, "R1")), ([1, 2], "2.000"))
-    yield Outcome("and told so", (set(inbox.states().values()), inbox.shown()["refused"]), ({"applied"}, 0))
-
-
 def of_others(room: Room) -> Iterator[Outcome]:
     """What waits for an agreement keeps its number, whatever comes meanwhile."""
     for number, wanted in ("own", ([1, 2], "2.000")), (NEXT, ([1, 2, 3], "3.000")):
@@ -97,6 +82,7 @@ def of_others(room: Room) -> Iterator[Outcome]:
             inbox.take(f"{place}.xml", feed_of(place, {"R1": f"{place}.00", f"S{place}": "1.00"}))
         inbox.begin_desk(ADDRESSEE)
         inbox.run()
+        yield Outcome(f"{number}: over a restored desk", (inbox.series.had, inbox.shown()["refused"]), ({}, 2))
         inbox.take("other.xml", feed_of(2, {"R1": "3.00"}))
         inbox.series.parties = (*SENDER, "", "")
         inbox.run()

@@ -7,7 +7,6 @@ import zipfile
 from collections.abc import Iterator
 from dataclasses import replace
 
-from onixdesk_shop.settings import NEXT
 from tests.program.room import Room
 from tests.running import Outcome
 from tests.shop.fake_program import SENDER, message_of, product_of
@@ -16,8 +15,6 @@ from tests.shop.inboxes import FakeInbox
 
 DAY = 86_400
 
-TERMS = '[[term]]\ntypes = ["02"]\nnet = "05"\npercent = "4.25"\n'
-
 
 def zipped(*names: str) -> bytes:
     written = io.BytesIO()
@@ -25,18 +22,6 @@ def zipped(*names: str) -> bytes:
         for name in names:
             archive.writestr(name, feed(3, []).replace("</Header>", "</Header><NoProduct/>"))
     return written.getvalue()
-
-
-def packed_again(room: Room) -> Iterator[Outcome]:
-    """A packed feed is taken again with other terms as any other is."""
-    inbox = FakeInbox(room.folder, room.program, number=NEXT)
-    inbox.terms = TERMS.encode()
-    inbox.take("packed.gz", gzip.compress(feed(None, [Book(1)]).encode()))
-    inbox.terms = TERMS.replace("4.25", "42.5").encode()
-    inbox.decide("again", "packed.gz")
-    inbox.run()
-    nets = [[record[2] for record in inbox.series.had[number] if record[:2] == ("Price", "05")] for number in (1, 2)]
-    yield Outcome("10.00 less 4.25 and 42.5 percent", nets, [["9.580"], ["5.750"]])
 
 
 def one_supplier(room: Room) -> Iterator[Outcome]:

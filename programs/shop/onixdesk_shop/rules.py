@@ -7,7 +7,7 @@ from pathlib import Path
 from typing import Any
 
 from onixdesk_shop.ends import parser_of
-from onixdesk_shop.faults import BAD_CALL, DONE, BadCall
+from onixdesk_shop.faults import DONE, BadCall
 from onixdesk_shop.machine import Machine
 
 
@@ -24,15 +24,6 @@ def rules_of(text: bytes) -> list[dict[str, Any]]:
         return list(tomllib.loads(text.decode("utf-8-sig")).get("rule", []))
     except ValueError as error:
         raise BadCall(f"the rules are no TOML 1.0: {error}") from None
-
-
-def rules_by(machine: Machine, program: Path, file: Path) -> list[dict[str, Any]]:
-    """The rules of a file. BadCall, in the desk's words, where its program takes none."""
-    text = machine.read(file)
-    ended = machine.run([program, "--rules", file, "batch"], (DONE, BAD_CALL))
-    if ended.status != DONE:
-        raise BadCall(ended.errors.decode("utf-8", "replace").partition("\n")[0].removeprefix("onixdesk: "))
-    return rules_of(text)
 
 
 def work(machine: Machine, options: argparse.Namespace) -> int:

@@ -8,7 +8,7 @@ from contextlib import closing
 
 from onixdesk_shop.machine import Machine
 from onixdesk_shop.postgres.following import TABLES, lines_of, rule_line
-from onixdesk_shop.rules import rules_by
+from onixdesk_shop.rules import rules_of
 from tests.program.databases import DATABASE, batch
 from tests.program.room import Ran, Room
 from tests.running import Outcome
@@ -48,9 +48,8 @@ def message(number: int, references: list[str], sender: str = "S") -> str:
 
 def precedence_tables(room: Room) -> Iterator[Outcome]:
     text = b'\xef\xbb\xbf[[rule]]\nseries = "*"\ncodes = ["20", "21"]\nmax = "12.9"\n[[rule]]\nseries = "north"\ncodes = ["10"]\n'
-    room.write("rules.toml", text)
     wanted = [b"1\t*\t{20,21}\t12900\n", b"2\tnorth\t{10}\t\\N\n"]
-    rules = rules_by(Machine("test"), room.program, room.path("rules.toml"))
+    rules = rules_of(text)
     found = [rule_line(number, rule) for number, rule in enumerate(rules, 1)]
     yield Outcome("desk-follow: rules that are read", found, wanted)
 
@@ -99,4 +98,4 @@ def refused(room: Room) -> Iterator[Outcome]:
     yield Outcome("desk-follow: another word", follow(room, "--schema", "other", DATABASE).status, 2)
     room.write("rules.toml", b"rule = 1\n")
     ran = follow(room, "--program", room.program, "--rules", "rules.toml", DATABASE)
-    yield Outcome("desk-follow: a bad table", ran, Ran(2, b"", b"desk-follow: rules: not TOML\n"))
+    yield Outcome("desk-follow: a bad table", (ran.status, b"rules.toml: " in ran.errors), (3, True))

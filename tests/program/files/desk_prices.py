@@ -55,9 +55,9 @@ SETTINGS = {
 RULES = '[[rule]]\nseries = "*"\ncodes = ["21"]\n'
 
 WANTED = [
-    "isbn,wholesaler,series,reference,availability,price,currency,rrp,title,day,may_be_old",
-    f"{ONE},North & Co,north,A,21,6.00,GBP,10.00,A book,20250310,",
-    f"{TWO},,,,,,GBP,12.00,,20250310,yes",
+    "isbn,wholesaler,series,reference,availability,price,currency,rrp,day,may_be_old",
+    f"{ONE},North & Co,north,A,21,6.00,GBP,10.00,20250310,",
+    f"{TWO},,,,,,GBP,12.00,20250310,yes",
 ]
 
 
@@ -68,12 +68,10 @@ def run(room: Room, *words: str) -> Ran:
 
 def a_file_of_prices(room: Room) -> Iterator[Outcome]:
     batch(room, (AGREEMENTS + NORTH + SOUTH).encode())
-    for name in ("till", "state/titles/97800"):
-        room.path(name).mkdir(parents=True)
+    for name in ("till", "state"):
+        room.path(name).mkdir()
     room.write("rules.toml", RULES.encode())
     room.write("desk.json", json.dumps(SETTINGS).encode())
-    entry = ["north", 1, 1, "A book", "", "", ""]
-    room.write("state/titles/97800/97800000.json", json.dumps({ONE: [entry]}).encode())
     shown = {
         "at": int(time.time()),
         "desk": True,

@@ -37,14 +37,11 @@ class Rest:
 
     def __init__(self, machine: Machine, seconds: float) -> None:
         self.machine = machine
-        self.seconds = seconds
         self.end = machine.now() + seconds
 
     def spend(self, file: Path, seconds: float) -> None:
         if self.machine.now() + seconds > self.end:
-            raise Fault(
-                f"{file}: it is not left as it is for long enough, in {self.seconds:g} s, or the clock was set back"
-            )
+            raise Fault(f"{file}: it is not left as it is for long enough, or the clock was set back")
         self.machine.sleep(seconds)
 
     def standing(self, file: Path) -> Entry | None:

@@ -10,7 +10,7 @@ from onixdesk_shop.faults import DONE
 from onixdesk_shop.machine import Machine
 from onixdesk_shop.places import PROGRAM
 from onixdesk_shop.postgres.following import call_of, check_version, script
-from onixdesk_shop.rules import rules_by
+from onixdesk_shop.rules import rules_of
 
 DESCRIPTION = """\
 Updates the tables of the schema desk in a PostgreSQL database from a running desk, in one transaction. A reader sees
@@ -29,8 +29,11 @@ def command_line() -> argparse.ArgumentParser:
 
 
 def work(machine: Machine, options: argparse.Namespace) -> int:
-    program = program_of(options.program)
-    rules = rules_by(machine, program, options.rules) if options.rules else []
+    rules = []
+    if options.rules:
+        # The desk's own program says whether it takes them.
+        machine.run([program_of(options.program), "rules", options.rules])
+        rules = rules_of(machine.read(options.rules))
     with copied(machine, options.file) as (copy, taken), machine.reading(copy) as source:
         check_version(source)
         machine.run(call_of(options.database), text=script(source, rules, taken.moment))

@@ -14,7 +14,7 @@ from onixdesk_shop.machine import Machine
 from onixdesk_shop.messages import Records
 from onixdesk_shop.places import DESK_JSON, PROGRAM, STATE
 from onixdesk_shop.prices.form import form_of
-from onixdesk_shop.prices.rows import Beside, questions_about, row
+from onixdesk_shop.prices.rows import may_be_old, questions_about, row
 from onixdesk_shop.shop_json import Shop, read_shop
 
 DESCRIPTION = """\
@@ -58,15 +58,16 @@ def asked(desk: DeskFile, day: str, shop: Shop, isbns: list[str]) -> Iterator[tu
 def work(machine: Machine, options: argparse.Namespace) -> int:
     shop = read_shop(machine, options.settings)
     form = form_of(shop)
-    day, beside = options.day or machine.today(), Beside(machine, options.state)
+    day = options.day or machine.today()
     lines, chosen = [form.head()], 0
     with copied(machine, options.file) as (copy, _):
         with machine.reading(copy) as source:
             isbns = [isbn for (isbn,) in source.execute(ARTICLES)]
-            old = {name for (name,) in source.execute("SELECT name FROM series") if beside.may_be_old(name)}
+            series = [name for (name,) in source.execute("SELECT name FROM series")]
+        old = {name for name in series if may_be_old(machine, options.state / f"{name}.json")}
         desk = DeskFile(machine, program_of(options.program), copy, options.rules)
         for isbn, answers in asked(desk, day, shop, isbns):
-            cells = row(isbn, answers, shop, beside, old) | {"day": day}
+            cells = row(isbn, answers, shop, old) | {"day": day}
             chosen += bool(cells["price"])
             lines.append(form.line(cells))
     if machine.exists(options.folder / FILE):

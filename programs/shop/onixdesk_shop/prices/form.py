@@ -7,7 +7,7 @@ from typing import Any
 from onixdesk_shop.faults import BadCall
 from onixdesk_shop.shop_json import Shop
 
-COLUMNS = "isbn wholesaler series reference availability price currency rrp title day may_be_old".split()
+COLUMNS = "isbn wholesaler series reference availability price currency rrp day may_be_old".split()
 
 AMOUNTS = "price", "rrp"
 

@@ -1,9 +1,7 @@
 """What a line of the file says of an article, by the desk's answers, and by how its wholesaler's inbox stands."""
 
-import functools
 from pathlib import Path
 
-from onixdesk_shop.inbox.titles import DIGITS, FOLDER, FOLDER_DIGITS
 from onixdesk_shop.machine import Machine
 from onixdesk_shop.messages import Records
 from onixdesk_shop.shop_json import Shop
@@ -29,32 +27,17 @@ def recommended(answer: Records, key: tuple[str, ...]) -> str:
     return next(iter([*filter(None, [priced.get(key)]), *own, *priced.values()]), "")
 
 
-class Beside:
-    """What stands beside the desk: titles, and how inboxes stand."""
-
-    def __init__(self, machine: Machine, state: Path) -> None:
-        self.machine = machine
-        self.state = state
-        # The articles of a file of titles come one after the other.
-        self.read = functools.lru_cache(1)(machine.read_json)
-
-    def title(self, isbn: str, series: str) -> str:
-        """The title of that series, else the one that a feed said last."""
-        digits = isbn[:DIGITS]
-        entries = self.read(self.state / FOLDER / digits[:FOLDER_DIGITS] / f"{digits}.json").get(isbn, [])
-        said = [entry for entry in entries if len(entry) > 3 and entry[3]]
-        return str(([entry for entry in said if entry[0] == series] or said or [[""] * 4])[0][3])
-
-    def may_be_old(self, series: str) -> bool:
-        """Whether the prices of a series may be old: something waits for a person or a number, or nobody knows."""
-        shown = self.read(self.state / f"{series}.json")
-        if self.machine.now() - shown.get("at", 0) > SEEN_SECONDS or not shown.get("desk") or shown.get("silent"):
-            return True
-        is_missing = shown["greatest"] is not None and shown["next"] <= shown["greatest"]
-        return bool(is_missing or shown.get("quarantined") or shown.get("refused"))
+def may_be_old(machine: Machine, state: Path) -> bool:
+    """Whether the prices of a series may be old, by its SERIES.json: something waits for a person or a number, or nobody
+    knows."""
+    shown = machine.read_json(state)
+    if machine.now() - shown.get("at", 0) > SEEN_SECONDS or not shown.get("desk") or shown.get("silent"):
+        return True
+    is_missing = shown["greatest"] is not None and shown["next"] <= shown["greatest"]
+    return bool(is_missing or shown.get("quarantined") or shown.get("refused"))
 
 
-def row(isbn: str, answers: list[Records], shop: Shop, beside: Beside, old: set[str]) -> dict[str, str]:
+def row(isbn: str, answers: list[Records], shop: Shop, old: set[str]) -> dict[str, str]:
     """The cells of an article by their columns; amounts are as the desk writes them."""
     choice, offers, *others = answers
     series, reference, place, availability, price = choice[0][3:] or [""] * 5
@@ -68,6 +51,5 @@ def row(isbn: str, answers: list[Records], shop: Shop, beside: Beside, old: set[
         "price": price,
         "currency": shop.currency,
         "rrp": recommended(others[0], (series, reference, place)) if others else "",
-        "title": beside.title(isbn, series),
         "may_be_old": "yes" if old.intersection(offering) else "",
     }

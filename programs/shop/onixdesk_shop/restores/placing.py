@@ -30,10 +30,6 @@ class Work:
         self.machine.remove_tree(self.new.parent)
         self.machine.make_folder(self.new.parent)
 
-    def units(self) -> list[str]:
-        file = self.folder / "units"
-        return self.machine.read(file).decode().split() if self.machine.exists(file) else []
-
     def ready(self) -> Path | None:
         """The folder of a new desk that is to get its place, or has got it."""
         return next(iter(self.machine.paths(self.folder, f"{READY}*")), None)
@@ -84,7 +80,8 @@ class Work:
         """Puts the new desk into its place where the old one is moved away, and starts what was stopped."""
         if self.is_begun():
             self.put_in_place()
-        self.started = [unit for unit in self.units() if is_begun(unit)]
+        stopped = [self.machine.read(file).decode() for file in self.machine.paths(self.folder, "units")]
+        self.started = [unit for unit in " ".join(stopped).split() if is_begun(unit)]
         self.is_started = units.start(self.started)
         self.machine.remove_tree(self.folder)
 

@@ -1,8 +1,7 @@
 //! What to write in place of words that are refused.
 
-/// Beside what clap says of the words.
-pub(crate) const OPTIONS_BEFORE: &str =
-    "onixdesk: --db FILE, --existing, --rules FILE and --batches SOCKET stand before the command, batch and export have no FILE behind it: onixdesk --db FILE batch < BATCH\n";
+const OPTIONS_BEFORE: &str =
+    "onixdesk: the options --db, --existing, --rules and --batches stand before the command, and batch and export have no FILE behind it: onixdesk --db FILE batch < BATCH\n";
 
 /// Where a command needs a database file.
 pub const FILE_BEFORE: &str =
@@ -11,3 +10,18 @@ pub const FILE_BEFORE: &str =
 /// In place of --batches before a command that sends no batch.
 pub const BATCH_TO_SOCKET: &str =
     "onixdesk: only a batch is sent to a socket, as in: onixdesk --batches SOCKET batch < FILE\n";
+
+/// What to write beside what clap says of words that it refuses, as a line; empty where none of them
+/// is an option that stands before the command.
+pub(crate) fn hint(words: &[&str]) -> &'static str {
+    for word in words {
+        if word.starts_with("--db")
+            || word.starts_with("--existing")
+            || word.starts_with("--rules")
+            || word.starts_with("--batches")
+        {
+            return OPTIONS_BEFORE;
+        }
+    }
+    ""
+}

@@ -9,7 +9,7 @@ ghost use Rattle.program_words.specs.Words.{number_in, text_in, words_in};
 use crate::arguments::{has_flag, text_in, texts_in};
 use crate::commands::program;
 use crate::convert_words::{Conversion, conversion_of};
-use crate::hints::OPTIONS_BEFORE;
+use crate::hints::hint;
 use clap::error::ErrorKind;
 use clap::{ArgMatches, Error};
 use std::alloc::{AllocError, Global};
@@ -99,8 +99,8 @@ pub enum Reading<'a> {
     Memory,
 }
 
-// What clap could not read as an invocation.
-fn error_reading<'a>(alloc: Global, error: &Error) -> Reading<'a>
+// What clap could not read as an invocation, and, where a word is out of its place, what to write.
+fn error_reading<'a>(alloc: Global, words: &[&str], error: &Error) -> Reading<'a>
     ensures { (top : List Row) (command : Option (Text × List Row))
         → ReadsWords top command result }
 {
@@ -113,7 +113,7 @@ fn error_reading<'a>(alloc: Global, error: &Error) -> Reading<'a>
     if !error.use_stderr() {
         return Reading::Help(text);
     }
-    match text.push_str(OPTIONS_BEFORE) {
+    match text.push_str(hint(words)) {
         Ok(()) => Reading::Wrong(text),
         Err(_) => Reading::Memory,
     }
@@ -406,6 +406,6 @@ pub fn read<'a>(alloc: Global, words: &'a [&'a str]) -> Reading<'a>
     };
     match program.try_get_matches_from(words) {
         Ok(matches) => matched_reading(alloc, &matches),
-        Err(error) => error_reading(alloc, &error),
+        Err(error) => error_reading(alloc, words, &error),
     }
 }

@@ -7,7 +7,7 @@ from functools import partial
 from pathlib import Path
 
 from tests.program.feeds.convert.records_and_notes import LINE
-from tests.program.feeds.feed_notes import NOTES, WRONG
+from tests.program.feeds.feed_notes import NOTES, WRONG, read_errors, read_summary
 from tests.program.feeds.feed_trees import Place
 from tests.program.room import Group, Room
 from tests.running import Outcome
@@ -63,8 +63,9 @@ def sample(path: Path, room: Room) -> Iterator[Outcome]:
     yield Outcome(f"convert {path.name}", (came.status, came.output), (status, records))
     hoped = NOTED if is_noted else []
     yield Outcome(f"convert {path.name}: its notes", noted(path, came.errors), hoped)
-    counts = came.errors.decode().splitlines()[-2:]
-    wanted = [f"onixdesk: {WRONG}: 2", f"onixdesk: {NOTES}: {len(hoped)}"] if is_noted else []
+    found = read_summary(read_errors(came.errors).summary)
+    counts = [found.get(words, 0) for words in (WRONG, NOTES)]
+    wanted = [2, len(hoped)] if is_noted else [0, 0]
     yield Outcome(f"convert {path.name}: the count", counts, wanted)
     came = room.run("convert", given=path.read_bytes())
     yield Outcome(f"convert {path.name}, from standard input", (came.status, came.output), (status, records))

@@ -63,7 +63,9 @@ def of_a_refused_file(room: Room) -> Iterator[Outcome]:
     inbox = inbox_in(room, "refused")
     said = inbox.take("-b\n.xml", b"<cut")
     mark = inbox.files()[0].mark
-    wanted = f"onixdesk-inbox --dismiss {mark} north; refused: line 1, column 1: the file ends too early; '-b\\n.xml'"
+    wanted = (
+        f"onixdesk-inbox --dismiss {mark} north; refused: line 1, column 1: the XML is not well-formed; '-b\\n.xml'"
+    )
     yield Outcome("a refused file", said, [wanted])
     yield Outcome("counted", inbox.shown()["refused"], 1)
     inbox.decide("dismiss", "refused")

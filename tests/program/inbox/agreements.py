@@ -80,9 +80,11 @@ def of_others(room: Room) -> Iterator[Outcome]:
         inbox = inbox_in(room, f"others {number}", number=number)
         for place in (1, 2):
             inbox.take(f"{place}.xml", feed_of(place, {"R1": f"{place}.00", f"S{place}": "1.00"}))
+        inbox.take("cut.xml", b"<cut")
         inbox.begin_desk(ADDRESSEE)
         inbox.run()
-        yield Outcome(f"{number}: over a restored desk", (inbox.series.had, inbox.shown()["refused"]), ({}, 2))
+        found = inbox.series.had, inbox.shown()["refused"], inbox.run()
+        yield Outcome(f"{number}: over a restored desk, once", found, ({}, 3, []))
         inbox.take("other.xml", feed_of(2, {"R1": "3.00"}))
         inbox.series.parties = (*SENDER, "", "")
         inbox.run()

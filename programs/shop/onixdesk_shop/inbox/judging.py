@@ -16,7 +16,7 @@ from onixdesk_shop.feeds import Refusal, Said, check, convert
 from onixdesk_shop.inbox import full, quarantine
 from onixdesk_shop.inbox.context import Inbox
 from onixdesk_shop.inbox.ledger import STANDING, File, Message, Row, State
-from onixdesk_shop.inbox.posting import REASONS, begin_again, give_back, why_refused
+from onixdesk_shop.inbox.posting import REASONS, begin_again, give_back, judge_anew, why_refused
 from onixdesk_shop.inbox.quarantine import Quarantine
 from onixdesk_shop.lines import ERROR, NOTICE, WARNING, cut, ranges
 from onixdesk_shop.messages import header_of, is_message, products_of
@@ -229,17 +229,15 @@ def retry_refused(inbox: Inbox, gaps: Gaps) -> None:
     """What was refused by other settings, terms, agreement or program is judged anew, and what the desk had another message
     or a waiver of, or had no place for, and lacks now."""
     ledger = inbox.ledger
-    ledger.retry_refused(inbox.basis(gaps.first))
+    judge_anew(inbox, "state = 'refused' AND basis <> ?", inbox.basis(gaps.first))
     reasons = "other-contents", "waived", "before-first", "held", "applied"
     answers = " OR ".join(f"answer LIKE '%\"{reason}\"%'" for reason in reasons)
-    refused = ledger.messages(f"state = 'refused' AND text IS NOT NULL AND ({answers})")
-    if lacking := [row for row in refused if gaps.lacks(row.number)]:
+    files = "file IN (SELECT id FROM file WHERE state = 'refused' AND why <> ?)"
+    where = f"state = 'refused' AND text IS NOT NULL AND ({answers}) AND {files}"
+    rows = ledger.messages(where, REASONS["unknown-series"])
+    if lacking := {row.file for row in rows if gaps.lacks(row.number)}:
         with ledger.step():
-            for row in lacking:
-                file = ledger.file(row.file)
-                is_agreed = file.why != REASONS["unknown-series"]
-                if file.state == State.REFUSED and is_agreed and ledger.is_final(file):
+            for file in map(ledger.file, lacking):
+                if ledger.is_final(file):
                     begin_again(inbox, file)
-                if not row.was_taken:
-                    ledger.do("UPDATE message SET answer = '' WHERE number = ?", row.number)
-            ledger.retry_refused()
+            judge_anew(inbox)

@@ -169,13 +169,6 @@ class Ledger:
         found = self.files("digest = ?", digest)
         return max(found, key=lambda file: file.taking) if found else None
 
-    def retry_refused(self, basis: str = "") -> None:
-        """Has what was refused by another basis judged anew."""
-        with self.step():
-            for file in self.files("state = 'refused' AND basis <> ?", basis):
-                if not self.is_final(file):
-                    self.set_state(file, State.NEW)
-
     def has_stood(self, file: File, states: tuple[State, ...] = (State.POSTED, State.HELD, State.APPLIED)) -> bool:
         """Whether the desk has, or may have, a message of a file."""
         return any(row.state in states for row in self.messages_of(file))

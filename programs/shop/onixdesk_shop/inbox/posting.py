@@ -137,16 +137,16 @@ def retry_unknown(inbox: Inbox, gaps: Gaps) -> None:
         else:
             ledger.set_message(row.number, State.REFUSED)
     if is_agreed:
-        judge_behind(inbox)
+        judge_anew(inbox, "state = 'new' OR state = 'refused' AND why = ?", REASONS["unknown-series"])
 
 
-def judge_behind(inbox: Inbox) -> None:
-    """Has all that waited for an agreement, and no desk took, judged anew."""
+def judge_anew(inbox: Inbox, where: str = "state = 'refused'", *values: str) -> None:
+    """Has files judged anew of which no desk has a message; their numbers are free again."""
     ledger = inbox.ledger
     with ledger.step():
-        for file in ledger.files("state = 'new' OR state = 'refused' AND why = ?", REASONS["unknown-series"]):
-            give_back(inbox, file)
+        for file in ledger.files(where, *values):
             if not ledger.is_final(file):
+                give_back(inbox, file)
                 ledger.set_state(file, State.NEW)
 
 
@@ -195,7 +195,7 @@ def settle_rejected(inbox: Inbox, gaps: Gaps) -> None:
         with ledger.step():
             ledger.set_message(row.number, State.REFUSED if is_given else State.RETURNED)
             ledger.forget_references(row.number)
-            ledger.retry_refused()
+            judge_anew(inbox)
             if is_given:
                 ledger.decide(Decision.WAIVE, file, row.number)
 

@@ -208,12 +208,6 @@ def page_of_http(room: Room) -> Iterator[Outcome]:
     yield Outcome("docs/HTTP.md: its questions", (len(of_articles), len(of_series)), (3, 2))
 
 
-def on_path(room: Room) -> dict[str, str]:
-    """An environment in which `onixdesk` is the program that is tested."""
-    room.path("onixdesk").symlink_to(room.program)
-    return {**os.environ, "PATH": f"{room.folder}:{os.environ['PATH']}"}
-
-
 def served_as_told(room: Room) -> Iterator[Outcome]:
     """The two desks that the page of HTTP starts, at a port of their own, and a batch at the socket of the second."""
     like_the_repository(room)
@@ -230,17 +224,6 @@ def served_as_told(room: Room) -> Iterator[Outcome]:
                 came = room.call(["sh", "-c", batch])
                 yield Outcome(f"{HTTP}: {batch}", came, Ran(0, b"agreed,north,1\n"))
             desk.kill()
-
-
-def waivers_as_told(room: Room) -> Iterator[Outcome]:
-    """The numbers that a change of parts leaves out, as docs/ONIX.md waives them."""
-    room.run("--db", "shop.db", "batch", given=AGREEMENT)
-    (command,) = block("docs/ONIX.md", "  seq -f 'Waive,north,")
-    # The first hundred of them: each is a transaction.
-    came = room.call(["sh", "-c", command.replace(" 18000 ", " 15400 ")], environment=on_path(room))
-    lines = came.output.decode().splitlines()
-    found = came.status, len(lines), lines[0], lines[-1]
-    yield Outcome(f"docs/ONIX.md: {command}", found, (0, 100, "waived,north,15301", "waived,north,15400"))
 
 
 def terms_as_told(room: Room) -> Iterator[Outcome]:

@@ -57,6 +57,16 @@ def a_number_that_never_comes(room: Room) -> Iterator[Outcome]:
         yield Outcome(f"{PAGE}: what waited for it", desk.take({}), {"feed.xml": "applied"})
 
 
+def numbers_of_more_parts(room: Room) -> Iterator[Outcome]:
+    """Those that a change of parts leaves out, as docs/ONIX.md waives them, of which the first hundred are tried."""
+    with machine(room, AGREEMENT.format("4012345000009", 15301)) as desk:
+        (command,) = block_with("docs/ONIX.md", "onixdesk-inbox waive north")
+        yield Outcome(f"docs/ONIX.md: {command}", desk.run([command.replace("-18000", "-15400")]).status, 0)
+        desk.take({})
+        wanted = "gaps,north,first=15301,next=15401,greatest=15400,held=0,missing=0"
+        yield Outcome("docs/ONIX.md: the gaps", desk.ask("AskGaps,north"), [wanted])
+
+
 def a_file_that_is_quarantined(room: Room) -> Iterator[Outcome]:
     """Its line begins with the commands, of which one is pasted."""
     with machine(room, AGREED) as desk:
@@ -93,7 +103,8 @@ def set_up_and_removed(room: Room) -> Iterator[Outcome]:
         for name in ("addgroup", "adduser", "journalctl"):
             script(room, f"bin/{name}", f'echo "{name} $*" >>"{room.path("calls")}"')
         script(room, "bin/install", 'shift 5; exec /usr/bin/install -d "$@"')
-        ran = desk.run(["set -e", *block_with(PAGE, "addgroup")])
+        lines = [*block_with(PAGE, "addgroup"), *block_with(PAGE, "enable --now onixdesk-inbox@")]
+        ran = desk.run(["set -e", *lines])
         yield Outcome(f"{PAGE}: an inbox is set up", (ran.status, ran.errors), (0, b""))
         yield Outcome(f"{PAGE}: its settings", desk.run(["onixdesk-inbox north"]).status, 0)
         mode = room.path("var/lib/onixdesk-incoming/north").stat().st_mode & 0o7777
@@ -108,11 +119,11 @@ def set_up_and_removed(room: Room) -> Iterator[Outcome]:
 @needs("sshd")
 def uploads_by_sftp(room: Room) -> Iterator[Outcome]:
     room.call(["ssh-keygen", "-q", "-t", "ed25519", "-N", "", "-f", "host"])
-    lines = [f"HostKey {room.path('host')}", *block_with(PAGE, "Match Group")]
     os.makedirs("/run/sshd", exist_ok=True)
-    room.write("sshd.conf", written(lines))
-    ran = room.call(["/usr/sbin/sshd", "-t", "-f", room.path("sshd.conf")])
-    yield Outcome(f"{PAGE}: the lines of sshd_config", (ran.status, ran.errors), (0, b""))
+    for page, text in ((PAGE, "Match Group"), ("docs/PRICES.md", "Match User")):
+        room.write("sshd.conf", written([f"HostKey {room.path('host')}", *block_with(page, text)]))
+        ran = room.call(["/usr/sbin/sshd", "-t", "-f", room.path("sshd.conf")])
+        yield Outcome(f"{page}: the lines of sshd_config", (ran.status, ran.errors), (0, b""))
 
 
 @needs("sshd", "rclone")

@@ -38,10 +38,11 @@ def moved_to_another_machine(room: Room) -> Iterator[Outcome]:
     """There is no desk there, nor a ledger, and the copy has both."""
     with machine(room, AGREED) as desk:
         desk.take({"1.xml": feed(1, a="8.00")})
-        first, *others = block_with(PAGE, "desk-copy --inboxes")
-        yield Outcome(f"{PAGE}: {first}", desk.run([first]).status, 0)
-        desk.run(["systemctl stop onixdesk.service", "rm -r /var/lib/onixdesk/* /var/lib/onixdesk-inbox/*"])
-        ran = desk.run(others)
+        desk.run(["systemctl stop onixdesk.service"])
+        ran = desk.run(["set -e", *block_with(PAGE, "desk-copy --inboxes")])
+        yield Outcome(f"{PAGE}: the old machine", (ran.status, ran.errors), (0, b""))
+        desk.run(["rm -r /var/lib/onixdesk/* /var/lib/onixdesk-inbox/*"])
+        ran = desk.run(block_with(PAGE, "desk-restore --yes friday"))
         yield Outcome(f"{PAGE}: the other machine", (ran.status, b"there was none before" in ran.errors), (0, True))
         states = desk.take({"2.xml": feed(2, b="9.00")})
         yield Outcome(f"{PAGE}: the ledger goes on", states, {"1.xml": "applied", "2.xml": "applied"})

@@ -122,7 +122,8 @@ def settle_refused(inbox: Inbox, row: Row, answer: Refused) -> None:
 
 def retry_unknown(inbox: Inbox, gaps: Gaps) -> None:
     """Posts again what no agreement was for, without a line: that the desk has another one by now shows in nothing else.
-    Behind the first that it takes, what no desk took before is judged anew, there was nothing to compare it with."""
+    Behind the first that it takes, what no desk took before is judged anew, since there was nothing to compare it
+    with."""
     ledger, is_agreed = inbox.ledger, False
     files = "file IN (SELECT id FROM file WHERE state = 'refused' AND why = ?)"
     refused = ledger.messages(f"state = 'refused' AND text IS NOT NULL AND {files}", REASONS["unknown-series"])

@@ -23,6 +23,10 @@ pub struct Saying {
 
 const TOO_LARGE: &str = "a Product too large for a message of 20000 records and 4194304 bytes";
 
+// That a Price of the world holds nowhere that a field can say.
+const LONG_EXCLUDED: &str =
+    "without the countries of the Prices beside it CountriesExcluded is longer than 1024 bytes";
+
 const LONG_MARKETS: &str = "its Markets together have more than 1024 bytes";
 
 const NO_IDENTIFIER: &str = "without thirteen digits of type 03 or 15: nobody finds it by an ISBN";
@@ -164,6 +168,7 @@ fn words_of_foreign(kind: Foreign, text: &[u8]) -> Words {
         Foreign::DateFormat => with_text("PriceDate in format", ""),
         Foreign::NoCharge => with_text("PriceAmount", " is no price"),
         Foreign::BesideDates => plain(BESIDE_DATES),
+        Foreign::LongTerritory => plain(LONG_EXCLUDED),
         Foreign::RegionAlone => with_text("RegionsIncluded", " without a country or WORLD"),
         Foreign::RegionOfNoCountry => {
             with_text("RegionsExcluded", ", which is no part of a country")

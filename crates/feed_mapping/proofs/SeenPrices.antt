@@ -17,7 +17,7 @@ use Rattle.feed_terms.specs.declared.with_terms.Remarks.{Remarks}
 use Rattle.feed_mapping.specs.Elements.{Composite, Element}
 use Rattle.feed_mapping.specs.Notes.{Note}
 use Rattle.feed_mapping.specs.Outcomes.{Outcome, all_records, left_out, nothing, outcome_records, written}
-use Rattle.feed_mapping.specs.Prices.{PriceContext, price_fields, price_outcome}
+use Rattle.feed_mapping.specs.Prices.{PriceContext, written_fields, price_outcome}
 use Rattle.feed_mapping.specs.PriceTerms.{AreWritten, all_given, all_remark_notes, closed_kinds, elements_in, given_by, given_in, given_of, is_seen, outcome_in, records_with, remark_notes}
 use Rattle.feed_mapping.specs.Records.{Fields, Records, parsed}
 use Rattle.feed_mapping.proofs.ComputedRows.{IsSeen, all-fit, long-at, seen}
@@ -33,10 +33,10 @@ slice-behind (x ∷ xs) y = slice-behind xs y
 pub record IsNew (context : PriceContext) (c : Composite) (old new : Records) : Type 0 where
   pub price : Price
   pub inside : length old < length new
-  pub holds : slice_get new (length old) ≡ Some (codes "Price" ∷ price_fields context c.below)
-  pub utf8 : list_all is_utf8 (price_fields context c.below) ≡ true
-  pub read : parsed (price_of context.opening) (price_fields context c.below) ≡ Some price
-  pub given : given_in context c.below ≡ given_of price (codes "Price" ∷ price_fields context c.below) c.below ∷ []
+  pub holds : slice_get new (length old) ≡ Some (codes "Price" ∷ written_fields context c.below)
+  pub utf8 : list_all is_utf8 (written_fields context c.below) ≡ true
+  pub read : parsed (price_of context.opening) (written_fields context c.below) ≡ Some price
+  pub given : given_in context c.below ≡ given_of price (codes "Price" ∷ written_fields context c.below) c.below ∷ []
 
 module _ (context : PriceContext) (c : Composite) (old new : Records) (added : new ≡ old ++ outcome_records (outcome_in context c)) where
   -- nothing was added: the terms see nothing
@@ -46,7 +46,7 @@ module _ (context : PriceContext) (c : Composite) (old new : Records) (added : n
       go : IsSeen context c.below (price_outcome context c.below) → given_in context c.below ≡ []
       go (inl (bare, none)) = none
       go (inr (p, one, own, read)) =
-          let longer = ap length (added ∙ ap (λ k. old ++ k) one) ∙ length-append old ((codes "Price" ∷ price_fields context c.below) ∷ []) in absurd (omega (arith, same, longer))
+          let longer = ap length (added ∙ ap (λ k. old ++ k) one) ∙ length-append old ((codes "Price" ∷ written_fields context c.below) ∷ []) in absurd (omega (arith, same, longer))
 
   pub new-price : (length new ≡ length old → ⊥) → IsNew context c old new
   new-price more = go (seen context c.below)
@@ -54,12 +54,12 @@ module _ (context : PriceContext) (c : Composite) (old new : Records) (added : n
       go : IsSeen context c.below (price_outcome context c.below) → IsNew context c old new
       go (inl (bare, none)) = absurd (more (ap length (added ∙ ap (λ k. old ++ k) bare ∙ append-nil old)))
       go (inr (p, one, own, read)) =
-          let is : new ≡ old ++ (codes "Price" ∷ price_fields context c.below) ∷ [] = added ∙ ap (λ k. old ++ k) one in
-          let longer = ap length is ∙ length-append old ((codes "Price" ∷ price_fields context c.below) ∷ []) in record {
+          let is : new ≡ old ++ (codes "Price" ∷ written_fields context c.below) ∷ [] = added ∙ ap (λ k. old ++ k) one in
+          let longer = ap length is ∙ length-append old ((codes "Price" ∷ written_fields context c.below) ∷ []) in record {
             price = p;
             inside = omega (arith, longer);
-            holds = ap (λ (rs : Records). slice_get rs (length old)) is ∙ slice-behind old (codes "Price" ∷ price_fields context c.below);
-            utf8 = (said-read (price_of context.opening) (price_fields context c.below) p read).utf8;
+            holds = ap (λ (rs : Records). slice_get rs (length old)) is ∙ slice-behind old (codes "Price" ∷ written_fields context c.below);
+            utf8 = (said-read (price_of context.opening) (written_fields context c.below) p read).utf8;
             read = read;
             given = own;
           }

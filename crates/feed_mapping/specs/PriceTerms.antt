@@ -25,7 +25,7 @@ use Rattle.feed_mapping.specs.Elements.{some_at, text_at}
 use Rattle.feed_mapping.specs.Notes.{Note, foreign, note}
 use Rattle.feed_mapping.specs.Outcomes.{Outcome, all_records, written}
 use Rattle.feed_mapping.specs.Parties.{Pair, is_there}
-use Rattle.feed_mapping.specs.Prices.{PriceContext, is_for_others, key_in, price_fields}
+use Rattle.feed_mapping.specs.Prices.{PriceContext, is_for_others, key_in, written_fields}
 use Rattle.feed_mapping.specs.Prices.{price_outcome}
 use Rattle.feed_mapping.specs.Records.{Fields, Records, parsed, parsed_term}
 use Rattle.feed_mapping.specs.declared.notes.Foreign.TheVariants as other
@@ -119,8 +119,8 @@ module _ (context : PriceContext) where
   abbrev pub given_in : Nodes → List GivenPrice
   given_in nodes =
       given_by (price_outcome context nodes)
-      (parsed (price_of context.opening) (price_fields context nodes))
-      (codes "Price" ∷ price_fields context nodes) nodes
+      (parsed (price_of context.opening) (written_fields context nodes))
+      (codes "Price" ∷ written_fields context nodes) nodes
 
   -- of some Prices
   abbrev pub all_given : List Composite → List GivenPrice

@@ -2,6 +2,7 @@
 #![tactic(auto)]
 
 mod again;
+mod closing_prices;
 pub mod dates;
 pub mod details;
 mod discounts;
@@ -11,6 +12,9 @@ mod identifiers;
 pub mod laws;
 mod malformed;
 pub mod markets;
+mod minimums;
+pub mod narrower;
+mod narrower_prices;
 pub mod notes;
 pub mod other_suppliers;
 pub mod parties;

@@ -5,7 +5,7 @@ use Rattle.std.proofs.lemmas.List.{append-nil}
 use Rattle.onix_records.specs.declared.parts.Price.{Price}
 use Rattle.feed_terms.specs.declared.price.GivenPrice.{GivenPrice}
 use Rattle.feed_mapping.specs.Elements.{Composite}
-use Rattle.feed_mapping.specs.Prices.{context_view, price_fields}
+use Rattle.feed_mapping.specs.Prices.{context_view, written_fields}
 use Rattle.feed_mapping.specs.PriceTerms.{given_in, given_of, kinds_closed}
 use Rattle.feed_mapping.specs.Records.{Fields}
 use Rattle.feed_mapping.proofs.SeenPrices.{IsNew, new-price, unseen}
@@ -34,7 +34,7 @@ returns-then-len-count-clause-closed c =
 pub given_of-requires : goal.given_of-requires
 given_of-requires c =
     let n = new-price (context_view c.args.context.now) c.args.price.now c.args.written.now.records c.add_price.new.records c.in_ok-add_price.ensures.records (λ same. grind (arith, nat_tests)) in
-    let written : c.record-2.result ≡ codes "Price" ∷ price_fields (context_view c.args.context.now) c.args.price.now.below = let holds = n.holds in cc in
+    let written : c.record-2.result ≡ codes "Price" ∷ written_fields (context_view c.args.context.now) c.args.price.now.below = let holds = n.holds in cc in
     subst (λ (f : Fields). 9 ≤ length f) (sym written) (omega arith)
 
 one-seen : (c : goal.In_ok-push-3) → IsNew (context_view c.args.context.now) c.args.price.now c.args.written.now.records c.add_price.new.records
@@ -45,15 +45,15 @@ one-seen c =
 said-is : (c : goal.In_ok-push-3) → Some c.in-Some.said ≡ Some ((one-seen c).price)
 said-is c =
     let n = one-seen c in
-    let own : c.record.result ≡ codes "Price" ∷ price_fields (context_view c.args.context.now) c.args.price.now.below =
+    let own : c.record.result ≡ codes "Price" ∷ written_fields (context_view c.args.context.now) c.args.price.now.below =
     let holds = n.holds in cc in
-    let read = c.in_ok-said.ensures (price_fields (context_view c.args.context.now) c.args.price.now.below) own n.utf8 in
+    let read = c.in_ok-said.ensures (written_fields (context_view c.args.context.now) c.args.price.now.below) own n.utf8 in
     let is = n.read in cc
 
 given-is : (c : goal.In_ok-push-3) → given_in (context_view c.args.context.now) c.args.price.now.below ≡ c.in_ok-given.given ∷ []
 given-is c =
     let n = one-seen c in
-    let fields = codes "Price" ∷ price_fields (context_view c.args.context.now) c.args.price.now.below in
+    let fields = codes "Price" ∷ written_fields (context_view c.args.context.now) c.args.price.now.below in
     let written : c.record-2.result ≡ fields = let holds = n.holds in cc in
     let same : c.in-Some.said ≡ n.price = let said = said-is c in cc in
     let own : c.in_ok-given.given ≡ given_of c.in-Some.said fields c.args.price.now.below =

@@ -2,7 +2,7 @@ use Rattle.std.proofs.Common.{◌≡◌, ◌++◌, length}
 use Rattle.std.specs.Prelude.{codes}
 use Rattle.feed_mapping.specs.Elements.{composites}
 use Rattle.feed_mapping.specs.Prices.{closing_keys, context_view}
-use Rattle.feed_mapping.proofs.prices.closing_keys.Given as goal
+use Rattle.feed_mapping.proofs.closing_prices.closing_keys.Given as goal
 
 abbrev pub invariant-loop-price : goal.invariant-loop-price
 invariant-loop-price l =

@@ -21,8 +21,8 @@ may_be (Some code) other = option_map_or (bytes_eq code) other false
 -- of copies, and in the first and the last day
 abbrev pub is_alike : Alike → Alike → Bool
 is_alike first other =
-    (may_be first.key.price_type other.key.price_type
-    && may_be first.key.currency other.key.currency)
+    (may_be first.kind.price_type other.kind.price_type
+    && may_be first.kind.currency other.kind.currency)
     && ((first.copies == other.copies)
     && (option_eq int_eq first.days.first other.days.first
     && option_eq int_eq first.days.last other.days.last))

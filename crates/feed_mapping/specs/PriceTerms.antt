@@ -25,7 +25,7 @@ use Rattle.feed_mapping.specs.Elements.{some_at, text_at}
 use Rattle.feed_mapping.specs.Notes.{Note, foreign, note}
 use Rattle.feed_mapping.specs.Outcomes.{Outcome, all_records, written}
 use Rattle.feed_mapping.specs.Parties.{Pair, is_there}
-use Rattle.feed_mapping.specs.Prices.{PriceContext, is_for_others, key_in, written_fields}
+use Rattle.feed_mapping.specs.Prices.{PriceContext, is_for_others, kind_in, written_fields}
 use Rattle.feed_mapping.specs.Prices.{price_outcome}
 use Rattle.feed_mapping.specs.Records.{Fields, Records, parsed, parsed_term}
 use Rattle.feed_mapping.specs.declared.notes.Foreign.TheVariants as other
@@ -103,14 +103,7 @@ abbrev pub given_by : Outcome → Option Price → Fields → Nodes → List Giv
 given_by (written records notes) (Some price) fields nodes = given_of price fields nodes ∷ []
 given_by outcome price fields nodes = []
 
--- the type and the currency of a Price, or those of the header, each where it is one
-abbrev pub kind_in : Opening → Nodes → Kind
-kind_in o nodes = record {
-  price_type = (key_in o nodes).price_type;
-  currency = (key_in o nodes).currency;
-}
-
--- the same, unless it is for others
+-- the type and the currency of a Price, or those of the header, unless it is for others
 abbrev pub kinds_closed : Opening → Nodes → List Kind
 kinds_closed o nodes = if is_for_others nodes then [] else kind_in o nodes ∷ []
 

@@ -41,7 +41,7 @@ use Rattle.feed_mapping.specs.declared.notes.Foreign.TheVariants.{PriceCoded, Pr
 use Rattle.feed_mapping.specs.declared.notes.Foreign.TheVariants.{PriceConstraint, PricePer}
 use Rattle.feed_mapping.specs.declared.notes.Foreign.TheVariants.{PriceQualifier}
 use Rattle.feed_mapping.specs.declared.notes.Wrong.TheVariants as bad
-use Rattle.feed_mapping.specs.declared.price_keys.Key.{Key}
+use Rattle.feed_terms.specs.declared.price.Kind.{Kind}
 use Rattle.feed_mapping.specs.declared.prices.PriceContext.{PriceContext as Lent}
 
 -- The context of a Price: what its message begins with, whether the record of its SupplyDetail has
@@ -52,7 +52,7 @@ pub record PriceContext : Type 0 where
   pub opening : Opening
   pub is_unpriced : Bool
   pub minimum : Option (List ℕ)
-  pub closed : List Key
+  pub closed : List Kind
   pub firsts : List First
 
 -- ---- the record
@@ -207,8 +207,8 @@ abbrev pub is_of_countries : Area → Bool
 is_of_countries a = is_filled a.included && not (names_world a.regions_included)
 
 -- the price type and the currency of a Price, or those of the header
-abbrev pub key_in : Opening → Nodes → Key
-key_in o nodes = record {
+abbrev pub kind_in : Opening → Nodes → Kind
+kind_in o nodes = record {
   price_type = or_default (parsed_term code2_of) o.header.default_type (text_at "PriceType" nodes);
   currency =
       or_default (parsed_term currency_of) o.header.default_currency
@@ -220,8 +220,8 @@ abbrev pub are_same : Option (List ℕ) → Option (List ℕ) → Bool
 are_same (Some a) (Some b) = bytes_eq a b
 are_same a b = false
 
-abbrev pub is_key : Key → Key → Bool
-is_key a b = are_same a.price_type b.price_type && are_same a.currency b.currency
+abbrev pub is_kind : Kind → Kind → Bool
+is_kind a b = are_same a.price_type b.price_type && are_same a.currency b.currency
 
 module _ (context : PriceContext) (nodes : Nodes) where
   -- whether the desk takes the record of a Price
@@ -237,13 +237,13 @@ module _ (context : PriceContext) (nodes : Nodes) where
   -- it might stand in the place of this one
   abbrev pub closed_reason : Option Reason
   closed_reason =
-      if list_any (is_key (key_in context.opening nodes)) context.closed
+      if list_any (is_kind (kind_in context.opening nodes)) context.closed
       then Some (foreign BesideDates []) else None
 
   -- in what it is alike others
   abbrev pub alike_in : Alike
   alike_in = record {
-    key = key_in context.opening nodes;
+    kind = kind_in context.opening nodes;
     copies = copies_of (minimum_written context nodes);
     days = right_days nodes;
   }
@@ -324,17 +324,17 @@ module _ (context : PriceContext) (nodes : Nodes) where
       else outcome_of (first_some (price_reasons context nodes)) context nodes
 
 -- the type and currency of a Price that would be written but for its PriceDates
-abbrev pub closing_key : PriceContext → Nodes → Option Key
-closing_key context nodes =
+abbrev pub closing_kind : PriceContext → Nodes → Option Kind
+closing_kind context nodes =
     if is_nothing context nodes || is_none (date_reason nodes) then None
     else if is_none (first_some (early_reasons None (free_reason nodes) nodes))
     && is_taken context nodes
-    then Some (key_in context.opening nodes)
+    then Some (kind_in context.opening nodes)
     else None
 
 -- those of some Prices
-abbrev pub closing_keys : PriceContext → List Composite → List Key
-closing_keys context prices = flat_map (λ p. option_to_list (closing_key context p.below)) prices
+abbrev pub closing_kinds : PriceContext → List Composite → List Kind
+closing_kinds context prices = flat_map (λ p. option_to_list (closing_kind context p.below)) prices
 
 -- ---- Prices that go before others
 
@@ -347,8 +347,8 @@ module _ (context : PriceContext) (nodes : Nodes) where
   -- whether its type, currency and minimum are such that it may be alike another
   abbrev pub is_like : Bool
   is_like =
-      may_lack (is_some (key_in context.opening nodes).price_type) (text_at "PriceType" nodes) nodes
-      && (may_lack (is_some (key_in context.opening nodes).currency)
+      may_lack (is_some (kind_in context.opening nodes).price_type) (text_at "PriceType" nodes) nodes
+      && (may_lack (is_some (kind_in context.opening nodes).currency)
       (text_at "CurrencyCode" nodes) nodes
       && is_some (optional (parsed_term quantity_of) (unwrap_or (own_minimum nodes) [])))
 

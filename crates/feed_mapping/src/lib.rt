@@ -19,7 +19,7 @@ pub mod notes;
 pub mod other_suppliers;
 pub mod parties;
 mod price_amounts;
-pub mod price_keys;
+mod price_kinds;
 mod price_terms;
 pub mod prices;
 pub mod product_records;

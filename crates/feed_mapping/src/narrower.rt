@@ -12,10 +12,10 @@ ghost use Rattle.feed_mapping.specs.Records.{parsed_term};
 ghost use Rattle.onix_terms.specs.Code.{country_of};
 
 use crate::dates::Days;
-use crate::price_keys::Key;
 use crate::records::utf8_text;
 use crate::regions::next_word;
-use onix_terms::code::Country;
+use feed_terms::price::Kind;
+use onix_terms::code::{Code, Country};
 use onix_terms::countries::countries_text;
 use onix_terms::day::Day;
 use onix_terms::items::Items;
@@ -27,7 +27,7 @@ use std::collections::BTreeMap;
 /// copies from which it holds, and its days.
 #[derive(Clone, Copy, Debug)]
 pub struct Alike {
-    pub key: Key,
+    pub kind: Kind,
     pub copies: u32,
     pub days: Days,
 }
@@ -46,27 +46,17 @@ pub struct Countries {
     seen: BTreeMap<String, bool>,
 }
 
-// Whether a type is none, or the other.
-fn may_be_type(one: Option<[u8; 2]>, other: Option<[u8; 2]>) -> bool
+// Whether a code is none, or the other.
+fn may_be<const FIRST: u8, const LAST: u8, const N: usize>(
+    one: Option<Code<FIRST, LAST, N>>,
+    other: Option<Code<FIRST, LAST, N>>,
+) -> bool
     ensures { result ≡ may_be one other }
 {
     match one {
         None => true,
         Some(one) => match other {
-            Some(other) => one.as_slice() == other.as_slice(),
-            None => false,
-        },
-    }
-}
-
-// Whether a currency is none, or the other.
-fn may_be_currency(one: Option<[u8; 3]>, other: Option<[u8; 3]>) -> bool
-    ensures { result ≡ may_be one other }
-{
-    match one {
-        None => true,
-        Some(one) => match other {
-            Some(other) => one.as_slice() == other.as_slice(),
+            Some(other) => one == other,
             None => false,
         },
     }
@@ -83,8 +73,8 @@ fn are_same(one: Option<Day>, other: Option<Day>) -> bool
 fn is_alike(first: &Alike, other: &Alike) -> bool
     ensures { result ≡ is_alike first.now other.now }
 {
-    may_be_type(first.key.price_type, other.key.price_type)
-        && may_be_currency(first.key.currency, other.key.currency)
+    may_be(first.kind.price_type, other.kind.price_type)
+        && may_be(first.kind.currency, other.kind.currency)
         && first.copies == other.copies
         && are_same(first.days.first, other.days.first)
         && are_same(first.days.last, other.days.last)

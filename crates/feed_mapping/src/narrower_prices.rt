@@ -10,7 +10,7 @@ use crate::dates::{Days, days_in};
 use crate::elements::{elements_in, next_composite, text_or_empty};
 use crate::minimums::{copies_of, greater_of, own_minimum};
 use crate::narrower::{Alike, First, countries_left, excluded_then};
-use crate::price_keys::key_in;
+use crate::price_kinds::kind_in;
 use crate::prices::{PriceContext, early_reason, right_days, wrong_date};
 use crate::records::{may_be_empty, parsed_quantity};
 use crate::regions::{countries_written, names_world};
@@ -26,7 +26,7 @@ fn alike_in(context: &PriceContext<'_, '_, '_>, days: Days, elements: &Elements<
         → result ≡ alike_in (context_view context.now) elements.now }
 {
     Alike {
-        key: key_in(context.opening, elements),
+        kind: kind_in(context.opening, elements),
         copies: copies_of(greater_of(own_minimum(elements), context.minimum)),
         days,
     }
@@ -75,12 +75,12 @@ fn may_lack(is_one: bool, text: &[u8], elements: &Elements<'_>) -> bool
 fn is_like(context: &PriceContext<'_, '_, '_>, elements: &Elements<'_>) -> bool
     ensures { result ≡ is_like (context_view context.now) elements.now }
 {
-    let key = key_in(context.opening, elements);
+    let kind = kind_in(context.opening, elements);
     let price_type = text_or_empty(b"PriceType", elements);
     let currency = text_or_empty(b"CurrencyCode", elements);
     let minimum = own_minimum(elements).unwrap_or(b"");
-    may_lack(key.price_type.is_some(), price_type, elements)
-        && may_lack(key.currency.is_some(), currency, elements)
+    may_lack(kind.price_type.is_some(), price_type, elements)
+        && may_lack(kind.currency.is_some(), currency, elements)
         && may_be_empty(minimum, parsed_quantity(minimum))
 }
 

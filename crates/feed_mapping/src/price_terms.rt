@@ -18,8 +18,9 @@ use crate::elements::{Composite, next_composite, text_or_empty};
 use crate::identifiers::is_there;
 use crate::notes::{Foreign, Note, Reason, push_note};
 use crate::parties::Pair;
+use crate::price_kinds::kind_in;
 use crate::prices::{PriceContext, add_price, is_for_others, price_in};
-use crate::records::{parsed_code, parsed_currency, utf8_text, value_or_default};
+use crate::records::utf8_text;
 use csv_records::buffer::RecordBuffer;
 use csv_records::fields::FieldBuffer;
 use csv_records::record::Record;
@@ -238,20 +239,7 @@ fn push_closed(
     if is_for_others(elements) {
         return Ok(());
     }
-    let price_type = text_or_empty(b"PriceType", elements);
-    let currency = text_or_empty(b"CurrencyCode", elements);
-    closed.push(Kind {
-        price_type: value_or_default(
-            opening.header.default_type,
-            price_type,
-            parsed_code(price_type),
-        ),
-        currency: value_or_default(
-            opening.header.default_currency,
-            currency,
-            parsed_currency(currency),
-        ),
-    })?;
+    closed.push(kind_in(opening, elements))?;
     Ok(())
 }
 

@@ -13,7 +13,7 @@ ghost use Rattle.feed_mapping.specs.Outcomes.{notes_below, outcome_notes, outcom
 ghost use Rattle.feed_mapping.specs.PriceViews.{reason_read, text_view};
 ghost use Rattle.feed_mapping.specs.Amounts.{amount_said, amount_written, rounded_amount};
 ghost use Rattle.onix_terms.specs.Amount.{amount_text};
-ghost use Rattle.feed_mapping.specs.Prices.{closed_reason, context_view, first_with_text, is_other_qualifier, is_taken, key_in, last_reason, long_reason, narrowed, written_fields, early_reasons, eight_fields, fields_in, free_reason, is_for_others, is_licensed, is_limited, is_nothing, is_other, late_reasons, old_element, outcome_of, price_fields, price_outcome, price_reasons, right_days};
+ghost use Rattle.feed_mapping.specs.Prices.{closed_reason, context_view, first_with_text, is_other_qualifier, is_taken, kind_in, last_reason, long_reason, narrowed, written_fields, early_reasons, eight_fields, fields_in, free_reason, is_for_others, is_licensed, is_limited, is_nothing, is_other, late_reasons, old_element, outcome_of, price_fields, price_outcome, price_reasons, right_days};
 ghost use Rattle.feed_mapping.specs.Records.{first_some, option_filter, parsed};
 ghost use Rattle.feed_mapping.specs.Territories.{AreRenamed, area_in, area_view};
 ghost use Rattle.feed_mapping.specs.declared.notes.Wrong.TheVariants.{OldElement};
@@ -29,7 +29,7 @@ use crate::narrower::First;
 use crate::narrower_prices::narrowed_in;
 use crate::notes::{Foreign, Note, Reason, Wrong, push_reason};
 use crate::price_amounts::{amount_said, is_zero, no_charge, rounded_text};
-use crate::price_keys::{Key, has_key, key_in};
+use crate::price_kinds::{has_kind, kind_in};
 use crate::reasons::{field_reason, or_price};
 use crate::records::{former, push_texts};
 use crate::territories::{
@@ -39,6 +39,7 @@ use csv_records::buffer::RecordBuffer;
 use csv_records::fields::FieldBuffer;
 use csv_records::record::Record;
 use feed_outline::{Elements, text_in};
+use feed_terms::price::Kind;
 use onix_records::fields::read_fields;
 use onix_records::parts::Price;
 use onix_records::price::read_price;
@@ -56,7 +57,7 @@ pub struct PriceContext<'a, 'b, 'c> {
     pub opening: &'a Opening,
     pub is_unpriced: bool,
     pub minimum: Option<&'b [u8]>,
-    pub closed: &'c [Key],
+    pub closed: &'c [Kind],
     pub firsts: &'c [First],
 }
 
@@ -521,8 +522,8 @@ fn closed_reason(
 ) -> Option<Reason<'static>>
     ensures { reason_read result ≡ closed_reason (context_view context.now) elements.now }
 {
-    let key = key_in(context.opening, elements);
-    if !has_key(&key, context.closed) {
+    let kind = kind_in(context.opening, elements);
+    if !has_kind(&kind, context.closed) {
         return None;
     }
     Some(Reason::foreign(Foreign::BesideDates, b""))

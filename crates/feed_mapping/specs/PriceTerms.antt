@@ -1,11 +1,13 @@
 -- What the terms of the shop see of the Prices of a SupplyDetail, and what comes of them by these.
 use Rattle.std.specs.Prelude.{◌≡◌, ℕ, Bool, false, ◌&&◌, ◌||◌, List, [], ◌∷◌, ◌++◌, Option, Some, None}
 use Rattle.std.specs.Prelude.{if◌then◌else◌, codes, length, map, nat_lt, replicate, drop, take}
+use Rattle.std.specs.Borrow.{Bor}
 use Rattle.std.specs.List.{flat_map, list_any}
 use Rattle.std.specs.Option.{option_to_list}
 use Rattle.std.specs.Str.{bytes_eq, is_utf8}
 use Rattle.feed_outline.specs.Names.{stranger_apart}
 use Rattle.feed_outline.specs.Nodes.{Nodes, no_nodes, node}
+use Rattle.feed_outline.specs.declared.line.Line.{Line}
 use Rattle.onix_records.specs.Price.{price_of}
 use Rattle.onix_records.specs.declared.parts.Price.{Price}
 use Rattle.onix_records.specs.declared.row.Opening.{Opening}
@@ -20,7 +22,7 @@ use Rattle.feed_terms.specs.declared.price.GivenPrice.{GivenPrice}
 use Rattle.feed_terms.specs.declared.price.Kind.{Kind}
 use Rattle.feed_terms.specs.declared.term.Term.{Term}
 use Rattle.feed_mapping.specs.Again.{comes_again}
-use Rattle.feed_mapping.specs.Elements.{Composite, Element, each_at}
+use Rattle.feed_mapping.specs.Elements.{Composite, Element, each_at, element_view}
 use Rattle.feed_mapping.specs.Elements.{some_at, text_at}
 use Rattle.feed_mapping.specs.Notes.{Note, foreign, note}
 use Rattle.feed_mapping.specs.Outcomes.{Outcome, all_records, written}
@@ -123,13 +125,9 @@ module _ (context : PriceContext) where
   abbrev pub outcome_in : Composite → Outcome
   outcome_in c = price_outcome context c.below
 
-  -- whether they see a Price
-  abbrev pub is_seen : Composite → Bool
-  is_seen c = nat_lt 0 (length (given_in c.below))
-
   -- the type and the currency of a Price that gives no record, unless it is for others
   abbrev pub closed_by : Composite → List Kind
-  closed_by c = if is_seen c then [] else kinds_closed context.opening c.below
+  closed_by c = if nat_lt 0 (length (given_in c.below)) then [] else kinds_closed context.opening c.below
 
   -- those of some Prices
   abbrev pub closed_kinds : List Composite → List Kind
@@ -139,13 +137,17 @@ module _ (context : PriceContext) where
   abbrev pub elements_in : Composite → List Element
   elements_in c = map (λ g. c.element) (given_in c.below)
 
--- what the terms see of the Prices of a SupplyDetail fits these records, and whether each is
--- written
+-- the elements of lines, wherever these lie in memory
+abbrev pub lines_view : List (Bor Line) → List Element
+lines_view lines = map (λ l. element_view l.now) lines
+
+-- what the terms see of the Prices of a SupplyDetail fits these records, and these elements are
+-- those of the Prices that they see
 pub record AreWritten (context : PriceContext) (prices : List Composite) (kept : Records)
-    (seen : List GivenPrice) (flags : List Bool) (kinds : List Kind) : Type 0 where
+    (seen : List GivenPrice) (elements : List Element) (kinds : List Kind) : Type 0 where
   pub records : kept ≡ all_records (outcome_in context) prices
   pub given : seen ≡ all_given context prices
-  pub are_written : flags ≡ map (is_seen context) prices
+  pub lines : elements ≡ flat_map (elements_in context) prices
   pub closed : kinds ≡ closed_kinds context prices
 
 -- a supplier as a term has it, by an identifier that is there and UTF-8

@@ -9,8 +9,8 @@ ghost use Rattle.feed_mapping.specs.Elements.{composites, element_view};
 ghost use Rattle.feed_mapping.specs.Notes.{foreign, note, note_views};
 ghost use Rattle.feed_mapping.specs.Outcomes.{all_notes, outcome_notes, outcome_records};
 ghost use Rattle.feed_mapping.specs.PartyViews.{pair_view};
-ghost use Rattle.feed_mapping.specs.Prices.{PriceContext as Seen, context_view};
-ghost use Rattle.feed_mapping.specs.PriceTerms.{AreWritten, all_given, area_text, closed_by, code_in, discount_in, elements_in, given_in, given_of, is_garbled, is_mixed, is_of_terms, is_seen, kinds_closed, outcome_in, rate_in, records_with, all_remark_notes, remark_notes, supplier_of, tax_in, terms_notes};
+ghost use Rattle.feed_mapping.specs.Prices.{context_view};
+ghost use Rattle.feed_mapping.specs.PriceTerms.{AreWritten, area_text, closed_by, code_in, discount_in, elements_in, given_in, given_of, is_garbled, is_mixed, is_of_terms, kinds_closed, lines_view, outcome_in, rate_in, records_with, all_remark_notes, remark_notes, supplier_of, tax_in, terms_notes};
 ghost use Rattle.feed_mapping.specs.declared.notes.Foreign.TheVariants as other;
 
 use crate::again::comes_again;
@@ -243,14 +243,13 @@ fn push_closed(
     Ok(())
 }
 
-// Of the Prices of a SupplyDetail those that are written: the record of each and what the terms see
-// of it; of all Prices whether they are; and the type and currency of those that are not, unless
-// they are for others.
+// Of the Prices of a SupplyDetail those that are written: the record of each, what the terms see of
+// it, and its line; and the type and currency of those that are not, unless they are for others.
 #[derive(Drop)]
-struct WrittenPrices {
+struct WrittenPrices<'a> {
     records: RecordBuffer,
     given: Vec<GivenPrice>,
-    are_written: Vec<bool>,
+    lines: Vec<&'a Line>,
     closed: Vec<Kind>,
 }
 
@@ -260,15 +259,15 @@ fn add_written<'a>(
     context: &PriceContext<'_, '_, '_>,
     price: &Composite<'a>,
     fields: &mut FieldBuffer,
-    written: &mut WrittenPrices,
+    written: &mut WrittenPrices<'a>,
     notes: &mut Vec<Note<'a>>,
 ) -> Result<(), AllocError>
     ensures records { OnOk result (written.new.records ≡ written.old.records
         ++ outcome_records (outcome_in (context_view context.now) price.now)) }
     ensures given { OnOk result (written.new.given.items ≡ written.old.given.items
         ++ given_in (context_view context.now) price.now.below) }
-    ensures are_written { OnOk result (written.new.are_written.items
-        ≡ written.old.are_written.items ++ is_seen (context_view context.now) price.now ∷ []) }
+    ensures lines { OnOk result (lines_view written.new.lines.items
+        ≡ lines_view written.old.lines.items ++ elements_in (context_view context.now) price.now) }
     ensures closed { OnOk result (written.new.closed.items
         ≡ written.old.closed.items ++ closed_by (context_view context.now) price.now) }
     ensures notes { OnOk result (note_views notes.new.items ≡ note_views notes.old.items
@@ -277,7 +276,6 @@ fn add_written<'a>(
     let count = written.records.len();
     add_price(alloc, context, price, fields, &mut written.records, notes)?;
     if written.records.len() == count {
-        written.are_written.push(false)?;
         push_closed(context.opening, &price.below, &mut written.closed)?;
         return Ok(());
     }
@@ -287,7 +285,7 @@ fn add_written<'a>(
     };
     let given = given_of(alloc, said, &written.records.record(count), &price.below)?;
     written.given.push(given)?;
-    written.are_written.push(true)?;
+    written.lines.push(price.line)?;
     Ok(())
 }
 
@@ -298,10 +296,10 @@ fn written_in<'a>(
     elements: &Elements<'a>,
     fields: &mut FieldBuffer,
     notes: &mut Vec<Note<'a>>,
-) -> Result<WrittenPrices, AllocError>
+) -> Result<WrittenPrices<'a>, AllocError>
     ensures written { IfOk result (λ w. AreWritten (context_view context.now)
-        (composites (codes "Price") elements.now) w.records w.given.items w.are_written.items
-        w.closed.items) }
+        (composites (codes "Price") elements.now) w.records w.given.items
+        (lines_view w.lines.items) w.closed.items) }
     ensures notes { OnOk result (note_views notes.new.items ≡ note_views notes.old.items
         ++ all_notes (outcome_in (context_view context.now))
         (composites (codes "Price") elements.now)) }
@@ -309,7 +307,7 @@ fn written_in<'a>(
     let mut written = WrittenPrices {
         records: RecordBuffer::new(alloc),
         given: Vec::new(alloc),
-        are_written: Vec::new(alloc),
+        lines: Vec::new(alloc),
         closed: Vec::new(alloc),
     };
     let mut rest = elements.copy();
@@ -382,37 +380,24 @@ fn push_remarks<'a>(
     push_held(remarks.held, line, notes)
 }
 
-// Adds the notes on those of the Prices that are written, of each of which that is said.
+// Adds the notes on Prices with these lines, of each of which that is said.
 fn push_all_remarks<'a>(
-    elements: &Elements<'a>,
-    are_written: &[bool],
+    lines: &[&'a Line],
     remarks: &[Remarks],
     notes: &mut Vec<Note<'a>>,
 ) -> Result<(), AllocError>
-    ensures { (context : Seen)
-        → are_written.now ≡ map (is_seen context) (composites (codes "Price") elements.now)
-        → length remarks.now ≡ length (all_given context (composites (codes "Price") elements.now))
-        → OnOk result (note_views notes.new.items ≡ note_views notes.old.items
-        ++ all_remark_notes (flat_map (elements_in context)
-        (composites (codes "Price") elements.now)) remarks.now) }
+    ensures { OnOk result (note_views notes.new.items ≡ note_views notes.old.items
+        ++ all_remark_notes (lines_view lines.now) remarks.now) }
 {
-    let mut rest = elements.copy();
-    let mut written = are_written;
+    let mut rest = lines;
     let mut left = remarks;
-    while let Some((price, behind)) = next_composite(b"Price", &rest) {
-        let [is_written, more @ ..] = written else {
+    while let [line, others @ ..] = rest {
+        let [said, more @ ..] = left else {
             return Ok(());
         };
-        written = more;
-        rest = behind;
-        if !*is_written {
-            continue;
-        }
-        let [first, others @ ..] = left else {
-            return Ok(());
-        };
-        push_remarks(price.line, *first, notes)?;
-        left = others;
+        push_remarks(line, *said, notes)?;
+        rest = others;
+        left = more;
     }
     Ok(())
 }
@@ -449,8 +434,7 @@ pub(crate) fn add_computed_prices<'a>(
         records,
     )?;
     push_all_remarks(
-        elements,
-        written.are_written.as_slice(),
+        written.lines.as_slice(),
         remarks.as_slice(),
         notes,
     )

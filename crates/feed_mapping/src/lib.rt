@@ -43,7 +43,7 @@ pub use notes::{Foreign, Note, Reason, ReasonKind, Wrong};
 pub use other_suppliers::{is_of_other, is_of_others, next_detail};
 pub use parties::Pair;
 pub use product_records::{Fate, add_bare, add_product, push_too_large};
-pub use supplier_counts::{has_named, has_other};
+pub use supplier_counts::has_detail;
 pub use supplies::first_reason;
 pub use supply_choices::SupplyChoices;
 pub use territories::{Area, area_in, unsupported};

@@ -433,9 +433,5 @@ pub(crate) fn add_computed_prices<'a>(
         &written.records,
         records,
     )?;
-    push_all_remarks(
-        written.lines.as_slice(),
-        remarks.as_slice(),
-        notes,
-    )
+    push_all_remarks(written.lines.as_slice(), remarks.as_slice(), notes)
 }

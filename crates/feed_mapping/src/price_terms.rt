@@ -20,7 +20,7 @@ use crate::notes::{Foreign, Note, Reason, push_note};
 use crate::parties::Pair;
 use crate::price_kinds::kind_in;
 use crate::prices::{PriceContext, add_price, is_for_others, price_in};
-use crate::records::utf8_text;
+use crate::records::{push_some, utf8_text};
 use csv_records::buffer::RecordBuffer;
 use csv_records::fields::FieldBuffer;
 use csv_records::record::Record;
@@ -98,23 +98,6 @@ fn code_in(alloc: Global, coded: &Composite<'_>) -> Result<Option<SaidCode>, All
     code_said(alloc, code_type, scheme, code)
 }
 
-// Adds the code that a DiscountCoded says.
-fn push_code(
-    alloc: Global,
-    coded: &Composite<'_>,
-    codes: &mut Items<SaidCode>,
-) -> Result<(), AllocError>
-    ensures { OnOk result (codes.new ≡ codes.old ++ option_to_list (code_in coded.now)) }
-{
-    match code_in(alloc, coded)? {
-        Some(code) => {
-            codes.push(code)?;
-            Ok(())
-        }
-        None => Ok(()),
-    }
-}
-
 // The codes that the DiscountCodeds of a Price say.
 fn codes_in(alloc: Global, elements: &Elements<'_>) -> Result<Items<SaidCode>, AllocError>
     ensures { IfOk result (λ all. all
@@ -124,7 +107,8 @@ fn codes_in(alloc: Global, elements: &Elements<'_>) -> Result<Items<SaidCode>, A
     let mut all = Items::new(alloc);
     let mut rest = elements.copy();
     while let Some((coded, behind)) = next_composite(b"DiscountCoded", &rest) {
-        push_code(alloc, &coded, &mut all)?;
+        let code = code_in(alloc, &coded)?;
+        push_some(&mut all, code)?;
         rest = behind;
     }
     Ok(all)
@@ -140,23 +124,6 @@ fn discount_in(discount: &Composite<'_>) -> Option<Discount>
     Discount::read(discount_type, quantity, percent)
 }
 
-// Adds the discount that a Discount says.
-fn push_discount(
-    discount: &Composite<'_>,
-    discounts: &mut Items<Discount>,
-) -> Result<(), AllocError>
-    ensures { OnOk result
-        (discounts.new ≡ discounts.old ++ option_to_list (discount_in discount.now)) }
-{
-    match discount_in(discount) {
-        Some(said) => {
-            discounts.push(said)?;
-            Ok(())
-        }
-        None => Ok(()),
-    }
-}
-
 // The discounts that the Discounts of a Price say.
 fn discounts_in(alloc: Global, elements: &Elements<'_>) -> Result<Items<Discount>, AllocError>
     ensures { IfOk result (λ all. all
@@ -166,7 +133,7 @@ fn discounts_in(alloc: Global, elements: &Elements<'_>) -> Result<Items<Discount
     let mut all = Items::new(alloc);
     let mut rest = elements.copy();
     while let Some((discount, behind)) = next_composite(b"Discount", &rest) {
-        push_discount(&discount, &mut all)?;
+        push_some(&mut all, discount_in(&discount))?;
         rest = behind;
     }
     Ok(all)

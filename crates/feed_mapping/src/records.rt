@@ -2,7 +2,7 @@
 
 ghost use Rattle.std.specs.Prelude.{◌≡◌, ◌==◌, ◌++◌, IfNone, IfSome, IsErrOf, OnOk, is_some, map, option_map, true, false};
 ghost use Rattle.std.specs.List.{list_all};
-ghost use Rattle.std.specs.Option.{option_or};
+ghost use Rattle.std.specs.Option.{option_or, option_to_list};
 ghost use Rattle.std.specs.Str.{is_utf8};
 ghost use Rattle.onix_records.specs.Fields.{value_or_default, unless_empty};
 ghost use Rattle.feed_mapping.specs.Notes.{reason_view};
@@ -18,7 +18,19 @@ use onix_records::fields::is_clean;
 use onix_records::row::RowFault;
 use onix_terms::amount::Amount;
 use onix_terms::code::{Code2, Currency};
+use onix_terms::items::Items;
 use onix_terms::quantity::Quantity;
+use std::alloc::AllocError;
+
+/// Adds an item, where there is one.
+pub(crate) fn push_some<T: Drop>(items: &mut Items<T>, item: Option<T>) -> Result<(), AllocError>
+    ensures { OnOk result (items.new ≡ items.old ++ option_to_list item) }
+{
+    match item {
+        Some(item) => items.push(item),
+        None => Ok(()),
+    }
+}
 
 /// The text of bytes, where they are UTF-8.
 pub fn utf8_text(bytes: &[u8]) -> Option<&str>

@@ -1,13 +1,11 @@
 -- What the terms of the shop see of the Prices of a SupplyDetail, and what comes of them by these.
 use Rattle.std.specs.Prelude.{◌≡◌, ℕ, Bool, false, ◌&&◌, ◌||◌, List, [], ◌∷◌, ◌++◌, Option, Some, None}
 use Rattle.std.specs.Prelude.{if◌then◌else◌, codes, length, map, nat_lt, replicate, drop, take}
-use Rattle.std.specs.Borrow.{Bor}
 use Rattle.std.specs.List.{flat_map, list_any}
 use Rattle.std.specs.Option.{option_to_list}
 use Rattle.std.specs.Str.{bytes_eq, is_utf8}
 use Rattle.feed_outline.specs.Names.{stranger_apart}
 use Rattle.feed_outline.specs.Nodes.{Nodes, no_nodes, node}
-use Rattle.feed_outline.specs.declared.line.Line.{Line}
 use Rattle.onix_records.specs.Price.{price_of}
 use Rattle.onix_records.specs.declared.parts.Price.{Price}
 use Rattle.onix_records.specs.declared.row.Opening.{Opening}
@@ -31,6 +29,7 @@ use Rattle.feed_mapping.specs.Prices.{PriceContext, is_for_others, kind_in, writ
 use Rattle.feed_mapping.specs.Prices.{price_outcome}
 use Rattle.feed_mapping.specs.Records.{Fields, Records, parsed, parsed_term}
 use Rattle.feed_mapping.specs.declared.notes.Foreign.TheVariants as other
+use Rattle.feed_mapping.specs.declared.price_terms.Place.{Place}
 
 -- ---- what a Price says to the terms
 
@@ -137,9 +136,9 @@ module _ (context : PriceContext) where
   abbrev pub elements_in : Composite → List Element
   elements_in c = map (λ g. c.element) (given_in c.below)
 
--- the elements of lines, wherever these lie in memory
-abbrev pub lines_view : List (Bor Line) → List Element
-lines_view lines = map (λ l. element_view l.now) lines
+-- the elements that stand in places
+abbrev pub places_view : List Place → List Element
+places_view places = map (λ p. element_view p.line.now) places
 
 -- what the terms see of the Prices of a SupplyDetail fits these records, and these elements are
 -- those of the Prices that they see
@@ -147,7 +146,7 @@ pub record AreWritten (context : PriceContext) (prices : List Composite) (kept :
     (seen : List GivenPrice) (elements : List Element) (kinds : List Kind) : Type 0 where
   pub records : kept ≡ all_records (outcome_in context) prices
   pub given : seen ≡ all_given context prices
-  pub lines : elements ≡ flat_map (elements_in context) prices
+  pub places : elements ≡ flat_map (elements_in context) prices
   pub closed : kinds ≡ closed_kinds context prices
 
 -- a supplier as a term has it, by an identifier that is there and UTF-8

@@ -10,7 +10,7 @@ ghost use Rattle.feed_mapping.specs.Notes.{foreign, note, note_views};
 ghost use Rattle.feed_mapping.specs.Outcomes.{all_notes, outcome_notes, outcome_records};
 ghost use Rattle.feed_mapping.specs.PartyViews.{pair_view};
 ghost use Rattle.feed_mapping.specs.Prices.{context_view};
-ghost use Rattle.feed_mapping.specs.PriceTerms.{AreWritten, area_text, closed_by, code_in, discount_in, elements_in, given_in, given_of, is_garbled, is_mixed, is_of_terms, kinds_closed, lines_view, outcome_in, rate_in, records_with, all_remark_notes, remark_notes, supplier_of, tax_in, terms_notes};
+ghost use Rattle.feed_mapping.specs.PriceTerms.{AreWritten, area_text, closed_by, code_in, discount_in, elements_in, given_in, given_of, is_garbled, is_mixed, is_of_terms, kinds_closed, outcome_in, places_view, rate_in, records_with, all_remark_notes, remark_notes, supplier_of, tax_in, terms_notes};
 ghost use Rattle.feed_mapping.specs.declared.notes.Foreign.TheVariants as other;
 
 use crate::again::comes_again;
@@ -210,13 +210,19 @@ fn push_closed(
     Ok(())
 }
 
+// Where a Price stands.
+#[derive(Clone, Copy)]
+struct Place<'a> {
+    line: &'a Line,
+}
+
 // Of the Prices of a SupplyDetail those that are written: the record of each, what the terms see of
-// it, and its line; and the type and currency of those that are not, unless they are for others.
+// it, and its place; and the type and currency of those that are not, unless they are for others.
 #[derive(Drop)]
 struct WrittenPrices<'a> {
     records: RecordBuffer,
     given: Vec<GivenPrice>,
-    lines: Vec<&'a Line>,
+    places: Vec<Place<'a>>,
     closed: Vec<Kind>,
 }
 
@@ -233,8 +239,8 @@ fn add_written<'a>(
         ++ outcome_records (outcome_in (context_view context.now) price.now)) }
     ensures given { OnOk result (written.new.given.items ≡ written.old.given.items
         ++ given_in (context_view context.now) price.now.below) }
-    ensures lines { OnOk result (lines_view written.new.lines.items
-        ≡ lines_view written.old.lines.items ++ elements_in (context_view context.now) price.now) }
+    ensures places { OnOk result (places_view written.new.places.items
+        ≡ places_view written.old.places.items ++ elements_in (context_view context.now) price.now) }
     ensures closed { OnOk result (written.new.closed.items
         ≡ written.old.closed.items ++ closed_by (context_view context.now) price.now) }
     ensures notes { OnOk result (note_views notes.new.items ≡ note_views notes.old.items
@@ -252,7 +258,7 @@ fn add_written<'a>(
     };
     let given = given_of(alloc, said, &written.records.record(count), &price.below)?;
     written.given.push(given)?;
-    written.lines.push(price.line)?;
+    written.places.push(Place { line: price.line })?;
     Ok(())
 }
 
@@ -266,7 +272,7 @@ fn written_in<'a>(
 ) -> Result<WrittenPrices<'a>, AllocError>
     ensures written { IfOk result (λ w. AreWritten (context_view context.now)
         (composites (codes "Price") elements.now) w.records w.given.items
-        (lines_view w.lines.items) w.closed.items) }
+        (places_view w.places.items) w.closed.items) }
     ensures notes { OnOk result (note_views notes.new.items ≡ note_views notes.old.items
         ++ all_notes (outcome_in (context_view context.now))
         (composites (codes "Price") elements.now)) }
@@ -274,7 +280,7 @@ fn written_in<'a>(
     let mut written = WrittenPrices {
         records: RecordBuffer::new(alloc),
         given: Vec::new(alloc),
-        lines: Vec::new(alloc),
+        places: Vec::new(alloc),
         closed: Vec::new(alloc),
     };
     let mut rest = elements.copy();
@@ -347,22 +353,22 @@ fn push_remarks<'a>(
     push_held(remarks.held, line, notes)
 }
 
-// Adds the notes on Prices with these lines, of each of which that is said.
+// Adds the notes on Prices in these places, of each of which that is said.
 fn push_all_remarks<'a>(
-    lines: &[&'a Line],
+    places: &[Place<'a>],
     remarks: &[Remarks],
     notes: &mut Vec<Note<'a>>,
 ) -> Result<(), AllocError>
     ensures { OnOk result (note_views notes.new.items ≡ note_views notes.old.items
-        ++ all_remark_notes (lines_view lines.now) remarks.now) }
+        ++ all_remark_notes (places_view places.now) remarks.now) }
 {
-    let mut rest = lines;
+    let mut rest = places;
     let mut left = remarks;
-    while let [line, others @ ..] = rest {
+    while let [place, others @ ..] = rest {
         let [said, more @ ..] = left else {
             return Ok(());
         };
-        push_remarks(line, *said, notes)?;
+        push_remarks(place.line, *said, notes)?;
         rest = others;
         left = more;
     }
@@ -400,5 +406,5 @@ pub(crate) fn add_computed_prices<'a>(
         &written.records,
         records,
     )?;
-    push_all_remarks(written.lines.as_slice(), remarks.as_slice(), notes)
+    push_all_remarks(written.places.as_slice(), remarks.as_slice(), notes)
 }

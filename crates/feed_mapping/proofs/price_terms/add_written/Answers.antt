@@ -5,8 +5,9 @@ use Rattle.std.proofs.lemmas.List.{append-nil, map-append}
 use Rattle.onix_records.specs.declared.parts.Price.{Price}
 use Rattle.feed_terms.specs.declared.price.GivenPrice.{GivenPrice}
 use Rattle.feed_mapping.specs.Elements.{Composite, element_view}
+use Rattle.feed_mapping.specs.declared.price_terms.Place.{Place}
 use Rattle.feed_mapping.specs.Prices.{context_view, written_fields}
-use Rattle.feed_mapping.specs.PriceTerms.{given_in, given_of, kinds_closed, lines_view}
+use Rattle.feed_mapping.specs.PriceTerms.{given_in, given_of, kinds_closed, places_view}
 use Rattle.feed_mapping.specs.Records.{Fields}
 use Rattle.feed_mapping.proofs.SeenPrices.{IsNew, new-price, unseen}
 use Rattle.feed_mapping.proofs.price_terms.add_written.Goals as goal
@@ -20,9 +21,9 @@ pub returns-then-len-count-clause-given : goal.returns-then-len-count-clause-giv
 returns-then-len-count-clause-given c =
     sym (ap (λ (g : List GivenPrice). c.args.written.now.given.items ++ g) (nothing-seen c) ∙ append-nil c.args.written.now.given.items)
 
-pub returns-then-len-count-clause-lines : goal.returns-then-len-count-clause-lines
-returns-then-len-count-clause-lines c =
-    let old = lines_view c.args.written.now.lines.items in
+pub returns-then-len-count-clause-places : goal.returns-then-len-count-clause-places
+returns-then-len-count-clause-places c =
+    let old = places_view c.args.written.now.places.items in
     sym (ap (λ (g : List GivenPrice). old ++ map (λ x. c.args.price.now.element) g) (nothing-seen c) ∙ append-nil old)
 
 pub returns-then-len-count-clause-closed : goal.returns-then-len-count-clause-closed
@@ -65,10 +66,10 @@ pub returns-clause-given : goal.returns-clause-given
 returns-clause-given c =
     c.in_ok-push.ensures.items ∙ ap (λ (g : List GivenPrice). c.args.written.now.given.items ++ g) (sym (given-is c))
 
-pub returns-clause-lines : goal.returns-clause-lines
-returns-clause-lines c =
-    let old = lines_view c.args.written.now.lines.items in
-    ap lines_view c.in_ok-push-2.ensures.items ∙ map-append (λ l. element_view l.now) c.args.written.now.lines.items (c.args.price.entry.line ∷ [])
+pub returns-clause-places : goal.returns-clause-places
+returns-clause-places c =
+    let old = places_view c.args.written.now.places.items in
+    ap places_view c.in_ok-push-2.ensures.items ∙ map-append (λ (p : Place). element_view p.line.now) c.args.written.now.places.items _
     ∙ ap (λ (x : Composite). old ++ x.element ∷ []) c.price.view_is ∙ ap (λ (g : List GivenPrice). old ++ map (λ x. c.args.price.now.element) g) (sym (given-is c))
 
 pub returns-clause-closed : goal.returns-clause-closed

@@ -12,7 +12,7 @@ loop-price-preserved c =
     let before = c.loop-price.invariant in record {
       records = one-more (λ x. outcome_records (outcome_in context x)) _ _ _ _ _ _ parts c.in_ok-add_written.ensures.records before.records;
       given = one-more (λ x. given_in context x.below) _ _ _ _ _ _ parts c.in_ok-add_written.ensures.given before.given;
-      lines = one-more (elements_in context) _ _ _ _ _ _ parts c.in_ok-add_written.ensures.lines before.lines;
+      places = one-more (elements_in context) _ _ _ _ _ _ parts c.in_ok-add_written.ensures.places before.places;
       closed = one-more (closed_by context) _ _ _ _ _ _ parts c.in_ok-add_written.ensures.closed before.closed;
       notes = one-more (λ x. outcome_notes x.element (outcome_in context x)) _ _ _ _ _ _ parts c.in_ok-add_written.ensures.notes before.notes;
     }

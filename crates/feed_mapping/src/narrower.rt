@@ -51,7 +51,7 @@ fn may_be<const FIRST: u8, const LAST: u8, const N: usize>(
     one: Option<Code<FIRST, LAST, N>>,
     other: Option<Code<FIRST, LAST, N>>,
 ) -> bool
-    ensures { result ≡ may_be one other }
+    ensures { result ≡ may_be one.entry other.entry }
 {
     match one {
         None => true,

@@ -36,7 +36,7 @@ fn are_same<const FIRST: u8, const LAST: u8, const N: usize>(
     one: Option<Code<FIRST, LAST, N>>,
     other: Option<Code<FIRST, LAST, N>>,
 ) -> bool
-    ensures { result ≡ are_same one other }
+    ensures { result ≡ are_same one.entry other.entry }
 {
     match one {
         Some(one) => match other {

@@ -2,7 +2,7 @@
 
 ghost use Rattle.std.specs.Prelude.{◌≡◌, ◌++◌, ◌∷◌, ◌<◌, [], ℕ, List, None, Some, IfOk, IsErrOf, OnOk, false, true, ◌&&◌, if◌then◌else◌, find, is_none, is_some, map, not, codes, option_map};
 ghost use Rattle.std.specs.List.{list_all};
-ghost use Rattle.std.specs.Option.{option_to_list};
+ghost use Rattle.std.specs.Option.{option_copied, option_to_list};
 ghost use Rattle.std.specs.Result.{result_err, result_unwrap_or};
 ghost use Rattle.std.specs.Str.{is_utf8};
 ghost use Rattle.feed_mapping.specs.DateViews.{dated_view};
@@ -529,24 +529,34 @@ fn closed_reason(
     Some(Reason::foreign(Foreign::BesideDates, b""))
 }
 
+// The fields of the territory that is the world without these countries.
+fn world_without<'b>(excluded: &'b Text) -> [&'b [u8]; 3]
+    ensures { map (λ t. t.now) result ≡ [] ∷ codes "WORLD" ∷ excluded.now ∷ [] }
+{
+    let none: &'b [u8] = b"";
+    let world: &'b [u8] = b"WORLD";
+    let excluded: &'b [u8] = excluded.as_str().as_bytes();
+    [none, world, excluded]
+}
+
 // Puts the record of a Price that is written as it stands, which the list has, as of the world
 // without these countries, where there are such. It says whether the desk takes it so.
-fn take_narrowed(
+fn take_narrowed<'b>(
     alloc: Global,
     context: &PriceContext<'_, '_, '_>,
-    owned: &Owned,
-    excluded: Option<Text>,
-    elements: &Elements<'_>,
+    owned: &'b Owned,
+    excluded: Option<&'b Text>,
+    elements: &Elements<'b>,
     fields: &mut FieldBuffer,
 ) -> Result<bool, AllocError>
-    ensures record { excluded.entry ≡ narrowed (context_view context.now) elements.now
+    ensures record { option_copied excluded.entry ≡ narrowed (context_view context.now) elements.now
         → owned.now.amount ≡ option_map amount_text (rounded_amount (amount_said elements.now))
         → owned.now.first ≡ day_field (right_days elements.now).first
         → owned.now.last ≡ day_field (right_days elements.now).last
         → fields.old ≡ codes "Price" ∷ price_fields (context_view context.now) elements.now
         → IfOk result (λ is. is ≡ true
         → fields.new ≡ codes "Price" ∷ written_fields (context_view context.now) elements.now) }
-    ensures taken { excluded.entry ≡ narrowed (context_view context.now) elements.now
+    ensures taken { option_copied excluded.entry ≡ narrowed (context_view context.now) elements.now
         → owned.now.amount ≡ option_map amount_text (rounded_amount (amount_said elements.now))
         → owned.now.first ≡ day_field (right_days elements.now).first
         → owned.now.last ≡ day_field (right_days elements.now).last
@@ -557,7 +567,7 @@ fn take_narrowed(
     match excluded {
         None => Ok(true),
         Some(excluded) => {
-            let territory: [&[u8]; 3] = [b"", b"WORLD", excluded.as_str().as_bytes()];
+            let territory = world_without(excluded);
             take_texts(alloc, context, owned, territory, elements, fields)
         }
     }
@@ -565,23 +575,23 @@ fn take_narrowed(
 
 // Adds the record of a Price that the desk takes as it stands, which the list has, or gives the
 // reason for which it is left out.
-fn push_price(
+fn push_price<'b>(
     alloc: Global,
     context: &PriceContext<'_, '_, '_>,
-    owned: &Owned,
-    excluded: Option<Text>,
-    elements: &Elements<'_>,
+    owned: &'b Owned,
+    excluded: Option<&'b Text>,
+    elements: &Elements<'b>,
     fields: &mut FieldBuffer,
     records: &mut RecordBuffer,
 ) -> Result<Option<Reason<'static>>, AllocError>
-    ensures reason { excluded.entry ≡ narrowed (context_view context.now) elements.now
+    ensures reason { option_copied excluded.entry ≡ narrowed (context_view context.now) elements.now
         → owned.now.amount ≡ option_map amount_text (rounded_amount (amount_said elements.now))
         → owned.now.first ≡ day_field (right_days elements.now).first
         → owned.now.last ≡ day_field (right_days elements.now).last
         → is_taken (context_view context.now) elements.now ≡ true
         → IfOk result (λ reason. reason_read reason
         ≡ long_reason (context_view context.now) elements.now) }
-    ensures record { excluded.entry ≡ narrowed (context_view context.now) elements.now
+    ensures record { option_copied excluded.entry ≡ narrowed (context_view context.now) elements.now
         → owned.now.amount ≡ option_map amount_text (rounded_amount (amount_said elements.now))
         → owned.now.first ≡ day_field (right_days elements.now).first
         → owned.now.last ≡ day_field (right_days elements.now).last
@@ -627,7 +637,15 @@ fn write_price<'a>(
         return Ok(Some(reason));
     }
     let excluded = narrowed_in(alloc, context, &owned.renamed, area, days, elements)?;
-    push_price(alloc, context, &owned, excluded, elements, fields, records)
+    push_price(
+        alloc,
+        context,
+        &owned,
+        excluded.as_ref(),
+        elements,
+        fields,
+        records,
+    )
 }
 
 // Adds what comes of a Price that is none other than the desk knows, or gives the reason for which

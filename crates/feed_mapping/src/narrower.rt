@@ -3,8 +3,6 @@
 
 ghost use Rattle.std.specs.Prelude.{◌≡◌, [], IfOk, OnOk, if◌then◌else◌};
 ghost use Rattle.std.specs.List.{list_any};
-ghost use Rattle.std.specs.Option.{option_eq};
-ghost use Rattle.std.specs.Ordering.{int_eq};
 ghost use Rattle.std.specs.Str.{bytes_eq};
 ghost use Rattle.feed_mapping.specs.Narrower.{all_excluded, countries_before, countries_in, countries_without, each_once, excluded_then, is_alike, may_be, with_country};
 ghost use Rattle.feed_mapping.specs.NarrowerSets.{AreSeen};
@@ -17,7 +15,6 @@ use crate::regions::next_word;
 use feed_terms::price::Kind;
 use onix_terms::code::{Code, Country};
 use onix_terms::countries::countries_text;
-use onix_terms::day::Day;
 use onix_terms::items::Items;
 use onix_terms::text::Text;
 use std::alloc::{AllocError, Global};
@@ -62,13 +59,6 @@ fn may_be<const FIRST: u8, const LAST: u8, const N: usize>(
     }
 }
 
-// Whether two days are the same, or both are none.
-fn are_same(one: Option<Day>, other: Option<Day>) -> bool
-    ensures { result ≡ option_eq int_eq one other }
-{
-    one == other
-}
-
 // Whether a Price that goes before others is alike one of them.
 fn is_alike(first: &Alike, other: &Alike) -> bool
     ensures { result ≡ is_alike first.now other.now }
@@ -76,8 +66,8 @@ fn is_alike(first: &Alike, other: &Alike) -> bool
     may_be(first.kind.price_type, other.kind.price_type)
         && may_be(first.kind.currency, other.kind.currency)
         && first.copies == other.copies
-        && are_same(first.days.first, other.days.first)
-        && are_same(first.days.last, other.days.last)
+        && first.days.first == other.days.first
+        && first.days.last == other.days.last
 }
 
 // The country that a word is.

@@ -47,19 +47,13 @@ fn are_same<const FIRST: u8, const LAST: u8, const N: usize>(
     }
 }
 
-fn is_kind(one: &Kind, other: &Kind) -> bool
-    ensures { result ≡ is_kind one.now other.now }
-{
-    are_same(one.price_type, other.price_type) && are_same(one.currency, other.currency)
-}
-
 // Whether one of the kinds is this one.
 pub(crate) fn has_kind(kind: &Kind, kinds: &[Kind]) -> bool
     ensures { result ≡ list_any (is_kind kind.now) kinds.now }
 {
     let mut rest = kinds;
     while let [first, tail @ ..] = rest {
-        if is_kind(kind, first) {
+        if are_same(kind.price_type, first.price_type) && are_same(kind.currency, first.currency) {
             return true;
         }
         rest = tail;

@@ -2,8 +2,6 @@
 
 ghost use Rattle.std.specs.Prelude.{◌≡◌, ◌≤◌, ◌++◌, ◌∷◌, [], IfOk, OnOk, true, codes, length, map, replicate};
 ghost use Rattle.std.specs.List.{flat_map};
-ghost use Rattle.std.specs.Str.{bytes_eq};
-ghost use Rattle.feed_outline.specs.Names.{stranger_apart};
 ghost use Rattle.std.specs.Option.{option_copied, option_to_list};
 ghost use Rattle.feed_mapping.specs.Elements.{composites, element_view};
 ghost use Rattle.feed_mapping.specs.Notes.{foreign, note, note_views};
@@ -44,12 +42,8 @@ pub(crate) fn is_of_terms(name: &[u8]) -> bool
         || name == b"Tax".as_slice()
 }
 
-// Whether an element is called as one that the terms read, and is none.
-fn is_stranger_apart(name: &[u8]) -> bool
-    ensures { result ≡ bytes_eq name.now stranger_apart }
-{
-    name == b";".as_slice()
-}
+// The name of an element that is called as one that the terms read, and is none.
+const STRANGER: &[u8] = b";";
 
 // Whether of what stands in such an element one is a stranger, or comes again.
 fn is_mixed(elements: &Elements<'_>) -> bool
@@ -59,7 +53,7 @@ fn is_mixed(elements: &Elements<'_>) -> bool
     while let Some(node) = rest.first() {
         let name = node.line.name;
         let text = node.line.text.as_slice();
-        if is_stranger_apart(name) || comes_again(name, text, &node.rest) {
+        if name == STRANGER || comes_again(name, text, &node.rest) {
             return true;
         }
         rest = node.rest;
@@ -74,7 +68,7 @@ fn is_garbled(elements: &Elements<'_>) -> bool
     let mut rest = elements.copy();
     while let Some(node) = rest.first() {
         let name = node.line.name;
-        if is_stranger_apart(name) || (is_of_terms(name) && is_mixed(&node.below)) {
+        if name == STRANGER || (is_of_terms(name) && is_mixed(&node.below)) {
             return true;
         }
         rest = node.rest;

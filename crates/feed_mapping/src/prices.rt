@@ -118,12 +118,6 @@ fn mark_in(name: &[u8], elements: &Elements<'_>) -> Option<&'static [u8]>
     }
 }
 
-fn has_text(name: &[u8], elements: &Elements<'_>) -> bool
-    ensures { result ≡ is_some (text_in name.now elements.now) }
-{
-    text_in(name, elements).is_some()
-}
-
 /// The first of these names by which an element has a text.
 pub(crate) fn first_with_text(
     names: &[&'static [u8]],
@@ -133,7 +127,7 @@ pub(crate) fn first_with_text(
 {
     let mut rest = names;
     while let [name, tail @ ..] = rest {
-        if has_text(name, elements) {
+        if text_in(name, elements).is_some() {
             return Some(*name);
         }
         rest = tail;

@@ -29,13 +29,6 @@ pub(crate) fn has_type(types: &[Code2], code: Code2) -> bool
     types.iter().any(|other| code == *other)
 }
 
-/// Whether a price is of one of the types of a term.
-pub(crate) fn is_of_type(term: &Term, given: &GivenPrice) -> bool
-    ensures { result ≡ is_among term.now.types given.now.price.price_type }
-{
-    has_type(term.types.as_slice(), given.price.price_type)
-}
-
 pub(crate) fn is_among(texts: &[Text], text: &Text) -> bool
     ensures { result ≡ is_among texts.now text.now }
 {
@@ -98,7 +91,7 @@ fn has_tax(tax: Option<Rate>, said: Option<Percent>) -> bool
 pub(crate) fn fits_besides(term: &Term, supplier: Option<&Text>, given: &GivenPrice) -> bool
     ensures { result ≡ fits_besides (option_copied supplier.entry) given.now term.now }
 {
-    is_of_type(term, given)
+    has_type(term.types.as_slice(), given.price.price_type)
         && is_text(term.supplier.as_ref(), supplier)
         && is_currency(term.currency, given.price.currency)
         && has_discount(term.percent, given.discounts.as_slice())

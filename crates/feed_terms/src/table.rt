@@ -1,17 +1,15 @@
 //! The table of terms.
 
 ghost use Rattle.std.specs.Prelude.{◌≡◌, ◌≤◌, IfOk, length, []};
-ghost use Rattle.std.specs.List.{list_any};
 ghost use Rattle.std.specs.Option.{option_copied};
 ghost use Rattle.feed_terms.specs.Codes.{first_in, passes_at};
-ghost use Rattle.feed_terms.specs.Fits.{fits_by, is_for, takes_scheme};
+ghost use Rattle.feed_terms.specs.Fits.{fits_by, takes_scheme};
 
 use crate::codes::CodeIndex;
 use crate::fits::{fits_besides, is_for, is_text};
 use crate::price::GivenPrice;
 use crate::term::{Term, TermsFault};
 use crate::toml_terms::read_table;
-use onix_terms::code::{Code2, Currency};
 use onix_terms::text::Text;
 use std::alloc::{AllocError, Global};
 use std::marker::Model;
@@ -74,13 +72,6 @@ fn first_of(
         }
     }
     below
-}
-
-// Whether one of the terms is for this type and currency.
-fn is_for_any(terms: &[Term], price_type: Code2, currency: Currency) -> bool
-    ensures { result ≡ list_any (is_for price_type currency) terms.now }
-{
-    terms.iter().any(|term| is_for(term, price_type, currency))
 }
 
 /// The terms of the shop with a wholesaler, which contracts see as the list of them, of which there
@@ -165,10 +156,10 @@ impl Terms {
     pub fn is_for(&self, given: &GivenPrice) -> bool
         ensures { result ≡ is_of_table self.now given.now }
     {
-        is_for_any(
-            self.terms.as_slice(),
-            given.price.price_type,
-            given.price.currency,
-        )
+        let price_type = given.price.price_type;
+        let currency = given.price.currency;
+        self.terms
+            .iter()
+            .any(|term| is_for(term, price_type, currency))
     }
 }

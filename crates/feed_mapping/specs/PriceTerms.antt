@@ -126,7 +126,8 @@ module _ (context : PriceContext) where
 
   -- the type and the currency of a Price that gives no record, unless it is for others
   abbrev pub closed_by : Composite → List Kind
-  closed_by c = if nat_lt 0 (length (given_in c.below)) then [] else kinds_closed context.opening c.below
+  closed_by c =
+      if nat_lt 0 (length (given_in c.below)) then [] else kinds_closed context.opening c.below
 
   -- those of some Prices
   abbrev pub closed_kinds : List Composite → List Kind

@@ -180,14 +180,11 @@ module _ (nodes : Nodes) where
       || is_some (other_type nodes "PriceCondition" "PriceConditionType")
       || is_some (other_type nodes "PriceConstraint" "PriceConstraintType")
 
-  -- whether it is for those who have a licence
-  abbrev pub is_licensed : Bool
-  is_licensed =
-      is_some (mark_in nodes "EpubLicense") || is_some (mark_in nodes "EpubLicenseWithDate")
-
-  -- whether it is one of these, or of 0
+  -- whether it is one of these, for those who have a licence, or of 0
   abbrev pub is_for_others : Bool
-  is_for_others = is_limited || is_licensed || is_zero (amount_said nodes)
+  is_for_others =
+      is_limited || is_some (mark_in nodes "EpubLicense")
+      || is_some (mark_in nodes "EpubLicenseWithDate") || is_zero (amount_said nodes)
 
 -- Which fields of a Price the desk does not take, each where it does not: it is outside its
 -- grammar, or it is empty and has no default in the header.
@@ -294,15 +291,11 @@ rounded_notes nodes =
     (first (each_at "PriceAmount" nodes)))
     else []
 
--- notes on what would make another price
-abbrev pub discount_notes : Nodes → List Note
-discount_notes nodes =
-    unread_notes (codes "Discount") Discount nodes
-    ++ unread_notes (codes "DiscountCoded") DiscountCoded nodes
-
--- notes on what is counted alone
+-- notes on what is counted alone: on what would make another price, and on a rounded amount
 abbrev pub counted_notes : Nodes → List Note
-counted_notes nodes = discount_notes nodes ++ rounded_notes nodes
+counted_notes nodes =
+    unread_notes (codes "Discount") Discount nodes
+    ++ (unread_notes (codes "DiscountCoded") DiscountCoded nodes ++ rounded_notes nodes)
 
 abbrev pub outcome_of : Option Reason → PriceContext → Nodes → Outcome
 outcome_of reason context nodes =
@@ -347,7 +340,8 @@ module _ (context : PriceContext) (nodes : Nodes) where
   -- whether its type, currency and minimum are such that it may be alike another
   abbrev pub is_like : Bool
   is_like =
-      may_lack (is_some (kind_in context.opening nodes).price_type) (text_at "PriceType" nodes) nodes
+      may_lack (is_some (kind_in context.opening nodes).price_type)
+      (text_at "PriceType" nodes) nodes
       && (may_lack (is_some (kind_in context.opening nodes).currency)
       (text_at "CurrencyCode" nodes) nodes
       && is_some (optional (parsed_term quantity_of) (unwrap_or (own_minimum nodes) [])))

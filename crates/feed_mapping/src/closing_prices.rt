@@ -1,4 +1,4 @@
-//! Which Prices of a SupplyDetail close others: those that would be written but for their PriceDates.
+//! Which Prices of a SupplyDetail close others: those that would be written but for their dates.
 
 ghost use Rattle.std.specs.Prelude.{◌≡◌, ◌&&◌, Some, None, IfOk, codes, if◌then◌else◌, is_none};
 ghost use Rattle.feed_mapping.specs.DateViews.{dated_view};

@@ -1,4 +1,4 @@
-//! Which Prices of a SupplyDetail go before those of the world, and what one of these excludes then.
+//! Which Prices of a SupplyDetail go before those of the world, and what these exclude then.
 
 ghost use Rattle.std.specs.Prelude.{◌≡◌, ◌&&◌, IfOk, OnOk, Some, None, codes, if◌then◌else◌, is_none, not};
 ghost use Rattle.std.specs.List.{list_any};

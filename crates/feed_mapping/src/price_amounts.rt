@@ -1,13 +1,11 @@
 //! Amounts of Prices, as they are written.
 
-ghost use Rattle.std.specs.Prelude.{◌≡◌, ◌<◌, ◌^◌, IfOk, IfSome, Some, option_map};
+ghost use Rattle.std.specs.Prelude.{◌≡◌, ◌<◌, ◌^◌, IfOk, IfSome, option_map};
 ghost use Rattle.feed_mapping.specs.Amounts.{amount_said, cut_zeros, is_zero, long_part_of, point_in, rounded_amount, rounded_of, written_amount};
-ghost use Rattle.feed_mapping.specs.PriceViews.{text_view};
-ghost use Rattle.feed_mapping.specs.Records.{option_filter};
 ghost use Rattle.onix_terms.specs.Amount.{amount_text};
 
 use crate::elements::text_or_empty;
-use crate::records::{are_zeros, parsed_amount, utf8_text};
+use crate::records::{are_zeros, utf8_text};
 use feed_outline::Elements;
 use onix_terms::amount::Amount;
 use onix_terms::ascii::are_digits;
@@ -15,12 +13,11 @@ use onix_terms::digits::read_digits;
 use onix_terms::text::Text;
 use std::alloc::{AllocError, Global};
 
-// A text with its point there, without the zeros behind the third decimal.
-fn cut_zeros(point: Option<usize>, text: &[u8]) -> &[u8]
-    requires { point ≡ point_in text.now }
-    ensures { result.now ≡ cut_zeros point text.now }
+// A text without the zeros behind its third decimal.
+fn cut_zeros(text: &[u8]) -> &[u8]
+    ensures { result.now ≡ cut_zeros (point_in text.now) text.now }
 {
-    let Some(at) = point else {
+    let Some(at) = text.iter().position(|byte| *byte == b'.') else {
         return text;
     };
     if text.len() - at <= 4 {
@@ -30,18 +27,11 @@ fn cut_zeros(point: Option<usize>, text: &[u8]) -> &[u8]
     if are_zeros(zeros) { front } else { text }
 }
 
-fn point_in(text: &[u8]) -> Option<usize>
-    ensures { result ≡ point_in text.now }
-{
-    text.iter().position(|byte| *byte == b'.')
-}
-
 /// The amount of a Price as it stands, without the zeros behind its third decimal.
 pub(crate) fn amount_said<'a>(elements: &Elements<'a>) -> &'a [u8]
     ensures { result.now ≡ amount_said elements.now }
 {
-    let text = text_or_empty(b"PriceAmount", elements);
-    cut_zeros(point_in(text), text)
+    cut_zeros(text_or_empty(b"PriceAmount", elements))
 }
 
 // The thousandths of more than three digits behind the point: to the third, halves up.
@@ -100,7 +90,7 @@ pub(crate) fn written_amount(said: &[u8]) -> Option<Amount>
 {
     match rounded_amount(said) {
         Some(amount) => Some(amount),
-        None => parsed_amount(said),
+        None => utf8_text(said)?.parse().ok(),
     }
 }
 
@@ -112,11 +102,4 @@ pub(crate) fn is_zero(said: &[u8]) -> bool
         None => false,
         Some(amount) => amount.thousandths() == 0,
     }
-}
-
-// An amount of 0.
-pub(crate) fn no_charge<'a>(said: &'a [u8]) -> Option<&'a [u8]>
-    ensures { text_view result ≡ option_filter is_zero (Some said.now) }
-{
-    if is_zero(said) { Some(said) } else { None }
 }

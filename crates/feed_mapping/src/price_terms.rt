@@ -234,7 +234,8 @@ fn add_written<'a>(
     ensures given { OnOk result (written.new.given.items ≡ written.old.given.items
         ++ given_in (context_view context.now) price.now.below) }
     ensures places { OnOk result (places_view written.new.places.items
-        ≡ places_view written.old.places.items ++ elements_in (context_view context.now) price.now) }
+        ≡ places_view written.old.places.items
+        ++ elements_in (context_view context.now) price.now) }
     ensures closed { OnOk result (written.new.closed.items
         ≡ written.old.closed.items ++ closed_by (context_view context.now) price.now) }
     ensures notes { OnOk result (note_views notes.new.items ≡ note_views notes.old.items

@@ -11,9 +11,8 @@ ghost use Rattle.feed_mapping.specs.Elements.{composites, first, text_or_empty};
 ghost use Rattle.feed_mapping.specs.Notes.{foreign, is_wrong, note_views, wrong};
 ghost use Rattle.feed_mapping.specs.Outcomes.{notes_below, outcome_notes, outcome_records};
 ghost use Rattle.feed_mapping.specs.PriceViews.{reason_read, text_view};
-ghost use Rattle.feed_mapping.specs.Amounts.{amount_said, amount_written, rounded_amount};
-ghost use Rattle.onix_terms.specs.Amount.{amount_text};
-ghost use Rattle.feed_mapping.specs.Prices.{closed_reason, context_view, first_with_text, is_other_qualifier, is_taken, kind_in, last_reason, long_reason, narrowed, written_fields, early_reasons, eight_fields, fields_in, free_reason, is_for_others, is_licensed, is_limited, is_nothing, is_other, late_reasons, old_element, outcome_of, price_fields, price_outcome, price_reasons, right_days};
+ghost use Rattle.feed_mapping.specs.Amounts.{amount_written, rounded_text};
+ghost use Rattle.feed_mapping.specs.Prices.{closed_reason, context_view, first_with_text, is_other_qualifier, is_taken, kind_in, last_reason, long_reason, narrowed, written_fields, early_reasons, eight_fields, fields_in, free_reason, is_for_others, is_limited, is_nothing, is_other, late_reasons, old_element, outcome_of, price_fields, price_outcome, price_reasons, right_days};
 ghost use Rattle.feed_mapping.specs.Records.{first_some, option_filter, parsed};
 ghost use Rattle.feed_mapping.specs.Territories.{AreRenamed, area_in, area_view};
 ghost use Rattle.feed_mapping.specs.declared.notes.Wrong.TheVariants.{OldElement};
@@ -28,7 +27,7 @@ use crate::minimums::{greater_of, own_minimum};
 use crate::narrower::First;
 use crate::narrower_prices::narrowed_in;
 use crate::notes::{Foreign, Note, Reason, Wrong, push_reason};
-use crate::price_amounts::{amount_said, is_zero, no_charge, rounded_text};
+use crate::price_amounts::{amount_said, is_zero, rounded_text};
 use crate::price_kinds::{has_kind, kind_in};
 use crate::reasons::{field_reason, or_price};
 use crate::records::{former, push_texts};
@@ -243,7 +242,12 @@ fn late_reason<'a>(
 pub(crate) fn free_reason<'a>(elements: &Elements<'a>) -> Option<Reason<'a>>
     ensures { reason_read result ≡ free_reason elements.now }
 {
-    because(Foreign::NoCharge, no_charge(amount_said(elements)))
+    let said = amount_said(elements);
+    if is_zero(said) {
+        Some(Reason::foreign(Foreign::NoCharge, said))
+    } else {
+        None
+    }
 }
 
 // Why a Price that holds there is another than the desk knows.
@@ -289,19 +293,14 @@ fn is_limited(elements: &Elements<'_>) -> bool
         || other_type(b"PriceConstraint", b"PriceConstraintType", elements).is_some()
 }
 
-// Whether a Price is for those who have a licence.
-fn is_licensed(elements: &Elements<'_>) -> bool
-    ensures { result ≡ is_licensed elements.now }
-{
-    mark_in(b"EpubLicense", elements).is_some()
-        || mark_in(b"EpubLicenseWithDate", elements).is_some()
-}
-
 /// Whether a Price is for others than the shop, for another unit than a copy, or of 0.
 pub(crate) fn is_for_others(elements: &Elements<'_>) -> bool
     ensures { result ≡ is_for_others elements.now }
 {
-    is_limited(elements) || is_licensed(elements) || is_zero(amount_said(elements))
+    is_limited(elements)
+        || mark_in(b"EpubLicense", elements).is_some()
+        || mark_in(b"EpubLicenseWithDate", elements).is_some()
+        || is_zero(amount_said(elements))
 }
 
 /// Whether a Price is nothing: it has no amount and no PriceCoded, and the record of its
@@ -340,8 +339,7 @@ fn owned_texts(
     area: &Area<'_>,
     days: Days,
 ) -> Result<Owned, AllocError>
-    ensures amount { IfOk result
-        (λ o. o.amount ≡ option_map amount_text (rounded_amount (amount_said elements.now))) }
+    ensures amount { IfOk result (λ o. o.amount ≡ rounded_text elements.now) }
     ensures renamed { IfOk result (λ o. AreRenamed o.renamed (area_view area.now)) }
     ensures first { IfOk result (λ o. o.first ≡ day_field days.first) }
     ensures last { IfOk result (λ o. o.last ≡ day_field days.last) }
@@ -356,7 +354,7 @@ fn owned_texts(
 
 // An amount as it is written.
 fn amount_written<'b>(owned: &'b Owned, elements: &Elements<'b>) -> &'b [u8]
-    ensures { owned.now.amount ≡ option_map amount_text (rounded_amount (amount_said elements.now))
+    ensures { owned.now.amount ≡ rounded_text elements.now
         → result.now ≡ amount_written elements.now }
 {
     match &owned.amount {
@@ -372,7 +370,7 @@ fn eight_texts<'b>(
     elements: &Elements<'b>,
 ) -> [&'b [u8]; 8]
     ensures { (days : Days)
-        → owned.now.amount ≡ option_map amount_text (rounded_amount (amount_said elements.now))
+        → owned.now.amount ≡ rounded_text elements.now
         → owned.now.first ≡ day_field days.first → owned.now.last ≡ day_field days.last
         → map (λ t. t.now) result
         ≡ eight_fields (map (λ t. t.now) territory.entry) days elements.now }
@@ -488,12 +486,12 @@ fn take_texts<'b>(
     elements: &Elements<'b>,
     fields: &mut FieldBuffer,
 ) -> Result<bool, AllocError>
-    ensures record { owned.now.amount ≡ option_map amount_text (rounded_amount (amount_said elements.now))
+    ensures record { owned.now.amount ≡ rounded_text elements.now
         → owned.now.first ≡ day_field (right_days elements.now).first
         → owned.now.last ≡ day_field (right_days elements.now).last → IfOk result (λ is. is ≡ true
         → fields.new ≡ codes "Price" ∷ fields_in (context_view context.now) elements.now
         (map (λ t. t.now) territory.entry)) }
-    ensures taken { owned.now.amount ≡ option_map amount_text (rounded_amount (amount_said elements.now))
+    ensures taken { owned.now.amount ≡ rounded_text elements.now
         → owned.now.first ≡ day_field (right_days elements.now).first
         → owned.now.last ≡ day_field (right_days elements.now).last → IfOk result (λ is. is
         ≡ is_some (parsed (price_of context.now.opening.now) (fields_in (context_view context.now)
@@ -544,14 +542,14 @@ fn take_narrowed<'b>(
     fields: &mut FieldBuffer,
 ) -> Result<bool, AllocError>
     ensures record { option_copied excluded.entry ≡ narrowed (context_view context.now) elements.now
-        → owned.now.amount ≡ option_map amount_text (rounded_amount (amount_said elements.now))
+        → owned.now.amount ≡ rounded_text elements.now
         → owned.now.first ≡ day_field (right_days elements.now).first
         → owned.now.last ≡ day_field (right_days elements.now).last
         → fields.old ≡ codes "Price" ∷ price_fields (context_view context.now) elements.now
         → IfOk result (λ is. is ≡ true
         → fields.new ≡ codes "Price" ∷ written_fields (context_view context.now) elements.now) }
     ensures taken { option_copied excluded.entry ≡ narrowed (context_view context.now) elements.now
-        → owned.now.amount ≡ option_map amount_text (rounded_amount (amount_said elements.now))
+        → owned.now.amount ≡ rounded_text elements.now
         → owned.now.first ≡ day_field (right_days elements.now).first
         → owned.now.last ≡ day_field (right_days elements.now).last
         → is_taken (context_view context.now) elements.now ≡ true
@@ -579,14 +577,14 @@ fn push_price<'b>(
     records: &mut RecordBuffer,
 ) -> Result<Option<Reason<'static>>, AllocError>
     ensures reason { option_copied excluded.entry ≡ narrowed (context_view context.now) elements.now
-        → owned.now.amount ≡ option_map amount_text (rounded_amount (amount_said elements.now))
+        → owned.now.amount ≡ rounded_text elements.now
         → owned.now.first ≡ day_field (right_days elements.now).first
         → owned.now.last ≡ day_field (right_days elements.now).last
         → is_taken (context_view context.now) elements.now ≡ true
         → IfOk result (λ reason. reason_read reason
         ≡ long_reason (context_view context.now) elements.now) }
     ensures record { option_copied excluded.entry ≡ narrowed (context_view context.now) elements.now
-        → owned.now.amount ≡ option_map amount_text (rounded_amount (amount_said elements.now))
+        → owned.now.amount ≡ rounded_text elements.now
         → owned.now.first ≡ day_field (right_days elements.now).first
         → owned.now.last ≡ day_field (right_days elements.now).last
         → fields.old ≡ codes "Price" ∷ price_fields (context_view context.now) elements.now

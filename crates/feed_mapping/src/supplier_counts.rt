@@ -39,8 +39,8 @@ fn is_in(named: Pair<'_>, of_other: bool, supply: &Elements<'_>) -> bool
     false
 }
 
-/// Whether a Product has a SupplyDetail of another than the supplier that is named, or else, of that
-/// one. A deletion has none.
+/// Whether a Product has a SupplyDetail of another than the supplier that is named, or else, of
+/// that one. A deletion has none.
 pub fn has_detail(named: Option<Pair<'_>>, of_other: bool, product: &Elements<'_>) -> bool
     ensures { result ≡ has_detail (option_map pair_view named.entry) of_other product.now }
 {

@@ -8,7 +8,7 @@ ghost use Rattle.feed_terms.specs.HeldBack.{is_closed, is_held, is_no_higher, is
 
 use crate::price::{GivenPrice, Kind};
 use onix_records::parts::Price;
-use onix_terms::code::{Code2, Currency};
+use onix_terms::code::{Code, Code2, Currency};
 use onix_terms::day::Day;
 
 fn is_later(first: Option<Day>, second: Option<Day>) -> bool
@@ -47,36 +47,31 @@ fn is_lower(
         && is_no_higher(price.minimum.value(), price.from, minimum, from)
 }
 
-fn may_be_type(kind: Option<Code2>, price_type: Code2) -> bool
-    ensures { result ≡ option_map_or (bytes_eq price_type) kind true }
+// Whether a code is none, or the other.
+fn may_be<const FIRST: u8, const LAST: u8, const N: usize>(
+    one: Option<Code<FIRST, LAST, N>>,
+    other: Code<FIRST, LAST, N>,
+) -> bool
+    ensures { result ≡ option_map_or (bytes_eq other.entry) one.entry true }
 {
-    match kind {
+    match one {
         None => true,
-        Some(kind) => price_type == kind,
-    }
-}
-
-fn may_be_currency(kind: Option<Currency>, currency: Currency) -> bool
-    ensures { result ≡ option_map_or (bytes_eq currency) kind true }
-{
-    match kind {
-        None => true,
-        Some(kind) => currency == kind,
+        Some(one) => other == one,
     }
 }
 
 // Whether a Price that gives no record has this type and currency, or says none.
-fn may_be(kind: &Kind, price_type: Code2, currency: Currency) -> bool
+fn covers(kind: &Kind, price_type: Code2, currency: Currency) -> bool
     ensures { result ≡ (option_map_or (bytes_eq price_type) kind.now.price_type true
         && option_map_or (bytes_eq currency) kind.now.currency true) }
 {
-    may_be_type(kind.price_type, price_type) && may_be_currency(kind.currency, currency)
+    may_be(kind.price_type, price_type) && may_be(kind.currency, currency)
 }
 
 fn is_closed(closed: &[Kind], price_type: Code2, currency: Currency) -> bool
     ensures { result ≡ is_closed price_type currency closed.now }
 {
-    closed.iter().any(|kind| may_be(kind, price_type, currency))
+    closed.iter().any(|kind| covers(kind, price_type, currency))
 }
 
 /// Whether a price of this type and currency, which is computed from so many copies and from that

@@ -1,7 +1,6 @@
 //! The records of a Product and of its supplies.
 
 ghost use Rattle.std.specs.Prelude.{◌≡◌, ◌++◌, ◌∷◌, ◌<◌, [], None, IfOk, OnOk, option_map};
-ghost use Rattle.feed_mapping.specs.Elements.{element_view};
 ghost use Rattle.feed_mapping.specs.Notes.{note, note_views};
 ghost use Rattle.feed_mapping.specs.Outcomes.{all_notes, all_records};
 ghost use Rattle.feed_mapping.specs.PartyViews.{pair_view};
@@ -9,7 +8,7 @@ ghost use Rattle.feed_mapping.specs.PriceViews.{reason_read};
 ghost use Rattle.feed_mapping.specs.ProductRecords.{fate_of, ignored_reason, is_alone, is_followed, isbn_reason, notes_behind, notification_written, others_reason, product_notes, product_records, fate_by, records_by, supplies_in, too_large_notes, why_emptied, written_notes};
 ghost use Rattle.feed_mapping.specs.Supplies.{supplies_reason, supply_in};
 ghost use Rattle.std.specs.Option.{option_map_or};
-ghost use Rattle.feed_mapping.specs.Products.{bare_record, emptied_record, has_isbn, dropping, notification_in, own_reason, product_record, right_pairs};
+ghost use Rattle.feed_mapping.specs.Products.{bare_record, has_isbn, dropping, notification_in, own_reason, product_record, right_pairs};
 ghost use Rattle.feed_mapping.specs.SupplyChoices.{supply_choices_view};
 
 use crate::elements::Composite;

@@ -1,11 +1,10 @@
 //! Texts of elements as the fields of a record.
 
-ghost use Rattle.std.specs.Prelude.{◌≡◌, ◌==◌, ◌++◌, IfNone, IfSome, IsErrOf, OnOk, is_some, map, option_map, true, false};
+ghost use Rattle.std.specs.Prelude.{◌≡◌, ◌==◌, ◌++◌, IfNone, IfSome, IsErrOf, OnOk, is_some, map, true, false};
 ghost use Rattle.std.specs.List.{list_all};
 ghost use Rattle.std.specs.Option.{option_or, option_to_list};
 ghost use Rattle.std.specs.Str.{is_utf8};
 ghost use Rattle.onix_records.specs.Fields.{value_or_default, unless_empty};
-ghost use Rattle.feed_mapping.specs.Notes.{reason_view};
 ghost use Rattle.feed_mapping.specs.PriceViews.{reason_read};
 ghost use Rattle.feed_mapping.specs.Records.{first_some, is_field, parsed_term, unless};
 ghost use Rattle.onix_terms.specs.Code.{code2_of, currency_of};

@@ -3,7 +3,7 @@ use Rattle.std.proofs.Common.{◌≡◌, ◌≤◌, ◌<◌, ◌/◌, ◌%◌, �
 use Rattle.std.specs.Prelude.{◌==◌, ◌&&◌, ◌||◌, codes, decimal, if◌then◌else◌, nat_lt}
 use Rattle.std.specs.Char.{is_ascii, is_ascii_digit}
 use Rattle.std.specs.List.{AllByRecursion, flat_map, list_all}
-use Rattle.std.specs.Option.{option_or, option_to_list}
+use Rattle.std.specs.Option.{option_map_or, option_or, option_to_list}
 use Rattle.std.specs.Str.{is_utf8}
 use Rattle.std.proofs.lemmas.Bool.{and_from, and_parts, eqb-true}
 use Rattle.std.proofs.lemmas.Bool.Decides.{nat_tests}
@@ -21,7 +21,7 @@ use Rattle.onix_terms.specs.Territory.{territory_of}
 use Rattle.onix_terms.proofs.DigitTexts.{own, two-digits}
 use Rattle.onix_terms.proofs.Ranges.{amount-range, positive-range}
 use Rattle.onix_records.specs.Fields.{is_clean, optional, or_default}
-use Rattle.onix_records.specs.Price.{minimum_fields, minimum_of, price_from, price_of, quantity_or_one}
+use Rattle.onix_records.specs.Price.{day_field, minimum_fields, minimum_of, price_from, price_of, quantity_or_one}
 use Rattle.onix_records.specs.declared.parts.Header.{Header}
 use Rattle.onix_records.specs.declared.parts.Price.{Price}
 use Rattle.onix_records.specs.declared.row.Form.{Form}
@@ -42,9 +42,10 @@ use Rattle.feed_mapping.specs.Elements.{Composite, each_at, text_at}
 use Rattle.feed_mapping.specs.Notes.{Reason, foreign}
 use Rattle.feed_mapping.specs.declared.notes.Foreign.TheVariants.{LongTerritory}
 use Rattle.feed_mapping.specs.Outcomes.{Outcome, all_records, nothing, outcome_records}
-use Rattle.feed_mapping.specs.Prices.{PriceContext, closed_reason, date_reason, early_reasons, free_reason, is_nothing, last_reason, long_reason, outcome_of, price_outcome, price_reasons, record_reason, written_fields}
+use Rattle.feed_mapping.specs.Prices.{PriceContext, closed_reason, date_reason, early_reasons, free_reason, is_nothing, last_reason, long_reason, minimum_written, narrowed, outcome_of, price_outcome, price_reasons, record_reason, right_days, territory_written, written_fields}
 use Rattle.feed_mapping.specs.PriceTerms.{all_given, discount_in, given_by, given_of, outcome_in}
 use Rattle.feed_mapping.specs.Records.{first_some, parsed}
+use Rattle.feed_mapping.specs.Territories.{area_fields, area_in}
 use Rattle.feed_mapping.proofs.PriceRows.{Reads, as-rows, cond-then, both, last-none, no-rows, one-first, or-none, price-row, said-read, taken}
 use Rattle.feed_mapping.proofs.Utf8Laws.{ascii-field, named-utf8}
 
@@ -90,10 +91,22 @@ fit-more a b g h f k = (length-append a b ∙ omega (arith, f.0, k.0, length-app
     all [] none = k.1
     all (r ∷ rs) some = (some.0, all rs some.1)
 
+area-three : (x : Option (List ℕ)) (fields : List (List ℕ)) → length fields ≡ 3 → length (option_map_or (λ (excluded : List ℕ). [] ∷ codes "WORLD" ∷ excluded ∷ []) x fields) ≡ 3
+area-three None fields e = e
+area-three (Some excluded) fields e = refl
+
+-- the record of a Price has the nine fields that each has
+pub long-written : (context : PriceContext) (nodes : Nodes) → 9 ≤ length (codes "Price" ∷ written_fields context nodes)
+long-written context nodes =
+    let t = territory_written context nodes in
+    let behind : List (List ℕ) = day_field (right_days nodes).first ∷ day_field (right_days nodes).last ∷ [] in
+    let three : length t ≡ 3 = area-three (narrowed context nodes) (area_fields (area_in nodes)) refl in
+    omega (arith, three, length-append t behind, length-append (t ++ behind) (option_to_list (minimum_written context nodes)))
+
 one-fits : (context : PriceContext) (nodes : Nodes) (outcome : Outcome) → IsSeen context nodes outcome
     → Fit (outcome_records outcome) (given_by outcome (parsed (price_of context.opening) (written_fields context nodes)) (codes "Price" ∷ written_fields context nodes) nodes)
 one-fits context nodes outcome (inl (bare, none)) = rw (bare, none) (refl, tt)
-one-fits context nodes outcome (inr (p, one, given, read)) = rw (one, given) (refl, (omega arith, tt))
+one-fits context nodes outcome (inr (p, one, given, read)) = rw (one, given) (refl, (long-written context nodes, tt))
 
 pub all-fit : (context : PriceContext) (cs : List Composite) → Fit (all_records (outcome_in context) cs) (all_given context cs)
 all-fit context [] = (refl, tt)

@@ -1,6 +1,7 @@
 //! Which Prices of a SupplyDetail close others: those that would be written but for their dates.
 
-ghost use Rattle.std.specs.Prelude.{◌≡◌, ◌&&◌, Some, None, IfOk, codes, if◌then◌else◌, is_none};
+ghost use Rattle.std.specs.Prelude.{◌≡◌, ◌++◌, ◌&&◌, Some, None, IfOk, OnOk, codes, if◌then◌else◌, is_none};
+ghost use Rattle.std.specs.Option.{option_to_list};
 ghost use Rattle.feed_mapping.specs.DateViews.{dated_view};
 ghost use Rattle.feed_mapping.specs.Dates.{days_in};
 ghost use Rattle.feed_mapping.specs.Elements.{composites};
@@ -13,7 +14,6 @@ use crate::price_kinds::kind_in;
 use crate::prices::{
     PriceContext, early_reason, free_reason, is_nothing, is_taken_then, right_days,
 };
-use crate::records::push_some;
 use crate::territories::area_in;
 use csv_records::fields::FieldBuffer;
 use feed_outline::Elements;
@@ -64,6 +64,31 @@ fn closing_kind(
     undated_kind(alloc, context, &dated, elements, fields)
 }
 
+// Adds the type and currency of a Price that would be written but for its PriceDates.
+fn add_closing_kind(
+    alloc: Global,
+    context: &PriceContext<'_, '_, '_>,
+    elements: &Elements<'_>,
+    fields: &mut FieldBuffer,
+    kinds: &mut Items<Kind>,
+) -> Result<(), AllocError>
+    ensures { OnOk result (kinds.new ≡ kinds.old
+        ++ option_to_list (closing_kind (context_view context.now) elements.now)) }
+{
+    match closing_kind(alloc, context, elements, fields)? {
+        Some(
+            Kind {
+                price_type,
+                currency,
+            },
+        ) => kinds.push(Kind {
+            price_type,
+            currency,
+        }),
+        None => Ok(()),
+    }
+}
+
 /// The types and currencies of those Prices of a SupplyDetail that would be written but for their
 /// PriceDates. The list takes fields.
 pub(crate) fn closing_kinds(
@@ -78,8 +103,7 @@ pub(crate) fn closing_kinds(
     let mut kinds = Items::new(alloc);
     let mut rest = elements.copy();
     while let Some((price, behind)) = next_composite(b"Price", &rest) {
-        let kind = closing_kind(alloc, context, &price.below, fields)?;
-        push_some(&mut kinds, kind)?;
+        add_closing_kind(alloc, context, &price.below, fields, &mut kinds)?;
         rest = behind;
     }
     Ok(kinds)

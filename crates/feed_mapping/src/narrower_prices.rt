@@ -84,8 +84,29 @@ fn is_like(context: &PriceContext<'_, '_, '_>, elements: &Elements<'_>) -> bool
         && may_be_empty(minimum, parsed_quantity(minimum))
 }
 
-// A Price for countries with these days in this territory, behind those that go before others too,
-// where it is written, or would be but for its amount.
+// A Price for countries with these days in this territory, as one that goes before others, behind
+// those that do too.
+fn first_behind(
+    alloc: Global,
+    context: &PriceContext<'_, '_, '_>,
+    firsts: &[First],
+    area: &Area<'_>,
+    renamed: &Renamed,
+    days: Days,
+    elements: &Elements<'_>,
+) -> Result<First, AllocError>
+    ensures { area_view area.now ≡ area_in elements.now → days ≡ right_days elements.now
+        → AreRenamed renamed.now (area_view area.now) → IfOk result (λ first. first
+        ≡ first_in (context_view context.now) elements.now firsts.now) }
+{
+    let alike = alike_in(context, days, elements);
+    let included = countries_written(area.included, &renamed.included);
+    let excluded = countries_written(area.excluded, &renamed.excluded);
+    let countries = countries_left(alloc, firsts, &alike, included, excluded)?;
+    Ok(First { alike, countries })
+}
+
+// The same, where it is written, or would be but for its amount.
 fn first_in(
     alloc: Global,
     context: &PriceContext<'_, '_, '_>,
@@ -104,11 +125,8 @@ fn first_in(
     if area_reason(alloc, area, &renamed)?.is_some() || !is_like(context, elements) {
         return Ok(None);
     }
-    let alike = alike_in(context, days, elements);
-    let included = countries_written(area.included, &renamed.included);
-    let excluded = countries_written(area.excluded, &renamed.excluded);
-    let countries = countries_left(alloc, firsts, &alike, included, excluded)?;
-    Ok(Some(First { alike, countries }))
+    let first = first_behind(alloc, context, firsts, area, &renamed, days, elements)?;
+    Ok(Some(first))
 }
 
 // Adds a Price, where it goes before others.

@@ -200,7 +200,14 @@ fn push_closed(
     if is_for_others(elements) {
         return Ok(());
     }
-    closed.push(kind_in(opening, elements))?;
+    let Kind {
+        price_type,
+        currency,
+    } = kind_in(opening, elements);
+    closed.push(Kind {
+        price_type,
+        currency,
+    })?;
     Ok(())
 }
 

@@ -9,6 +9,7 @@ use Rattle.feed_mapping.specs.declared.price_terms.Place.{Place}
 use Rattle.feed_mapping.specs.Prices.{context_view, written_fields}
 use Rattle.feed_mapping.specs.PriceTerms.{given_in, given_of, kinds_closed, places_view}
 use Rattle.feed_mapping.specs.Records.{Fields}
+use Rattle.feed_mapping.proofs.ComputedRows.{long-written}
 use Rattle.feed_mapping.proofs.SeenPrices.{IsNew, new-price, unseen}
 use Rattle.feed_mapping.proofs.price_terms.add_written.Goals as goal
 
@@ -37,7 +38,7 @@ pub given_of-requires : goal.given_of-requires
 given_of-requires c =
     let n = new-price (context_view c.args.context.now) c.args.price.now c.args.written.now.records c.add_price.new.records c.in_ok-add_price.ensures.records (λ same. grind (arith, nat_tests)) in
     let written : c.record-2.result ≡ codes "Price" ∷ written_fields (context_view c.args.context.now) c.args.price.now.below = let holds = n.holds in cc in
-    subst (λ (f : Fields). 9 ≤ length f) (sym written) (omega arith)
+    subst (λ (f : Fields). 9 ≤ length f) (sym written) (long-written (context_view c.args.context.now) c.args.price.now.below)
 
 one-seen : (c : goal.In_ok-push-2) → IsNew (context_view c.args.context.now) c.args.price.now c.args.written.now.records c.add_price.new.records
 one-seen c =

@@ -1,6 +1,7 @@
 //! Which computed prices are held back by what the feed gives.
 
 ghost use Rattle.std.specs.Prelude.{◌≡◌, ◌&&◌, true};
+ghost use Rattle.std.specs.List.{list_any};
 ghost use Rattle.std.specs.Option.{option_map_or};
 ghost use Rattle.std.specs.Str.{bytes_eq};
 ghost use Rattle.price_rules.specs.Current.{is_later};
@@ -31,7 +32,7 @@ fn is_no_higher(minimum: u32, from: Option<Day>, other: u32, other_from: Option<
     !is_later(from, other_from)
 }
 
-// Whether a price of the feed has this type and currency, and does not outrank one that starts so.
+// Whether a price has this type and currency, and does not outrank one that starts so.
 fn is_lower(
     price: &Price,
     price_type: Code2,
@@ -74,6 +75,20 @@ fn is_closed(closed: &[Kind], price_type: Code2, currency: Currency) -> bool
     closed.iter().any(|kind| covers(kind, price_type, currency))
 }
 
+// Whether a price of the feed has this type and currency, and does not outrank one that starts so.
+fn has_lower(
+    given: &[GivenPrice],
+    price_type: Code2,
+    currency: Currency,
+    minimum: u32,
+    from: Option<Day>,
+) -> bool
+    ensures { result ≡ list_any (λ g. is_of_kind price_type currency g.price
+        && is_no_higher g.price.minimum g.price.from minimum from) given.now }
+{
+    given.iter().any(|other| is_lower(&other.price, price_type, currency, minimum, from))
+}
+
 /// Whether a price of this type and currency, which is computed from so many copies and from that
 /// day on, is held back by what its SupplyDetail gives.
 pub(crate) fn is_held(
@@ -86,6 +101,5 @@ pub(crate) fn is_held(
 ) -> bool
     ensures { result ≡ is_held closed.now given.now price_type currency minimum from }
 {
-    is_closed(closed, price_type, currency)
-        || given.iter().any(|other| is_lower(&other.price, price_type, currency, minimum, from))
+    is_closed(closed, price_type, currency) || has_lower(given, price_type, currency, minimum, from)
 }

@@ -4,7 +4,7 @@ use Rattle.std.specs.List.{list_any}
 use Rattle.std.specs.Option.{option_copied}
 use Rattle.std.specs.Str.{bytes_eq}
 use Rattle.feed_terms.specs.Fits.{is_among}
-use Rattle.feed_terms.specs.HeldBack.{is_barred, is_held_back, place_text, unfitted}
+use Rattle.feed_terms.specs.HeldBack.{is_held_back, place_text, unfitted}
 use Rattle.feed_terms.specs.WithTerms.{held_by, is_held_beside, remarks_of, with_all}
 use Rattle.feed_terms.specs.declared.price.GivenPrice.{GivenPrice}
 use Rattle.feed_terms.specs.declared.term.Term.{Term}

@@ -13,11 +13,12 @@ use onix_terms::digits::read_digits;
 use onix_terms::text::Text;
 use std::alloc::{AllocError, Global};
 
-// A text without the zeros behind its third decimal.
-fn cut_zeros(text: &[u8]) -> &[u8]
-    ensures { result.now ≡ cut_zeros (point_in text.now) text.now }
+// A text with its point there, without the zeros behind the third decimal.
+fn cut_zeros(point: Option<usize>, text: &[u8]) -> &[u8]
+    requires { point ≡ point_in text.now }
+    ensures { result.now ≡ cut_zeros point text.now }
 {
-    let Some(at) = text.iter().position(|byte| *byte == b'.') else {
+    let Some(at) = point else {
         return text;
     };
     if text.len() - at <= 4 {
@@ -27,11 +28,18 @@ fn cut_zeros(text: &[u8]) -> &[u8]
     if are_zeros(zeros) { front } else { text }
 }
 
+fn point_in(text: &[u8]) -> Option<usize>
+    ensures { result ≡ point_in text.now }
+{
+    text.iter().position(|byte| *byte == b'.')
+}
+
 /// The amount of a Price as it stands, without the zeros behind its third decimal.
 pub(crate) fn amount_said<'a>(elements: &Elements<'a>) -> &'a [u8]
     ensures { result.now ≡ amount_said elements.now }
 {
-    cut_zeros(text_or_empty(b"PriceAmount", elements))
+    let text = text_or_empty(b"PriceAmount", elements);
+    cut_zeros(point_in(text), text)
 }
 
 // The thousandths of more than three digits behind the point: to the third, halves up.

@@ -7,7 +7,7 @@ ghost use Rattle.std.specs.Str.{chars};
 ghost use Rattle.feed_mapping.specs.Notes.{note_views, reason_view};
 ghost use Rattle.feed_mapping.specs.PartyViews.{pair_view};
 ghost use Rattle.feed_mapping.specs.PriceViews.{reason_read};
-ghost use Rattle.feed_mapping.specs.Products.{MayBe, are_some, beside_isbn, graded, digit_byte, dropping, has_isbn, identifier_note, identifier_notes, is_blank, is_deletion, is_gtin_type, is_hyphen, is_isbn, is_strange, is_thirteen, notification_in, or_reference, own_reasons, pair_reason, product_record, reference_in, right_pair, right_pairs, thirteen_of, without_marks, written_value};
+ghost use Rattle.feed_mapping.specs.Products.{MayBe, are_some, beside_isbn, graded, digit_byte, dropping, has_isbn, identifier_note, identifier_notes, is_blank, is_deletion, is_gtin_type, is_hyphen, is_isbn, is_strange, is_thirteen, notification_in, or_reference, own_reasons, pair_reason, product_record, reference_in, right_pair, right_pairs, thirteen_of, type_of, value_of, without_marks, written_value};
 ghost use Rattle.feed_mapping.specs.Records.{first_some, unless};
 ghost use Rattle.feed_mapping.specs.declared.notes.Wrong.TheVariants as bad;
 
@@ -208,12 +208,26 @@ pub(crate) struct Identifiers {
     pub(crate) has_isbn: bool,
 }
 
+// The type of an identifier, empty where it is absent.
+fn type_of<'a>(identifier: &Composite<'a>) -> &'a [u8]
+    ensures { result.now ≡ type_of identifier.now }
+{
+    text_or_empty(b"ProductIDType", &identifier.below)
+}
+
+// The value of an identifier, empty where it is absent.
+fn value_of<'a>(identifier: &Composite<'a>) -> &'a [u8]
+    ensures { result.now ≡ value_of identifier.now }
+{
+    text_or_empty(b"IDValue", &identifier.below)
+}
+
 // Whether the desk would find the product by an identifier as an ISBN.
 fn is_isbn(alloc: Global, identifier: &Composite<'_>) -> Result<bool, AllocError>
     ensures { IfOk result (λ is. is ≡ is_isbn identifier.now) }
 {
-    let id_type = text_or_empty(b"ProductIDType", &identifier.below);
-    let value = text_or_empty(b"IDValue", &identifier.below);
+    let id_type = type_of(identifier);
+    let value = value_of(identifier);
     let digits = digits_of(alloc, id_type, value)?;
     Ok(is_gtin_type(id_type) && is_thirteen(or_value(&digits, value)))
 }
@@ -245,8 +259,8 @@ fn take_identifier<'a>(
     ensures notes { OnOk result (note_views notes.new.items
         ≡ note_views notes.old.items ++ identifier_note identifier.now is_found) }
 {
-    let id_type = text_or_empty(b"ProductIDType", &identifier.below);
-    let value = text_or_empty(b"IDValue", &identifier.below);
+    let id_type = type_of(identifier);
+    let value = value_of(identifier);
     let digits = digits_of(alloc, id_type, value)?;
     let written = or_value(&digits, value);
     if id_type.is_empty() && value.is_empty() {

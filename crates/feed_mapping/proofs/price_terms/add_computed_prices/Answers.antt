@@ -7,7 +7,6 @@ use Rattle.feed_terms.specs.HeldBack.{is_held_back}
 use Rattle.feed_terms.specs.WithTerms.{HavePrices, remarks_of, with_terms}
 use Rattle.feed_terms.specs.declared.price.GivenPrice.{GivenPrice}
 use Rattle.feed_terms.specs.declared.price.Kind.{Kind}
-use Rattle.feed_terms.specs.declared.with_terms.Remarks.{Remarks}
 use Rattle.feed_mapping.specs.Elements.{Element, composites}
 use Rattle.feed_mapping.specs.Notes.{Note, note_views}
 use Rattle.feed_mapping.specs.Outcomes.{all_notes}
@@ -57,6 +56,10 @@ noted c =
 pub returns-clause-records : goal.returns-clause-records
 returns-clause-records c = on_ok_weaker c.push_all_remarks.result (λ told. records-of c) (noted c)
 
+-- notes behind others, which are behind old ones
+behind : (old between new all said : List Note) → between ≡ old ++ all → new ≡ between ++ said → new ≡ old ++ (all ++ said)
+behind old between new all said first told = told ∙ ap (λ (k : List Note). k ++ said) first ∙ append_assoc old all said
+
 pub returns-clause-notes : goal.returns-clause-notes
 returns-clause-notes c =
     let context = context_view c.args.context.now in
@@ -65,8 +68,8 @@ returns-clause-notes c =
     let remarks = remarks-of c
     ∙ said-of-each c.args.terms.now (option_copied c.args.supplier) context prices c.in_ok-written.written.records c.in_ok-written.written.given.items
     (places_view c.in_ok-written.written.places.items) c.in_ok-written.written.closed.items c.in_ok-written.ensures.written in
-    on_ok_weaker c.push_all_remarks.result
-    (λ told. told ∙ ap (λ (k : List Remarks). note_views c.written_in.new.notes.items ++ said k) remarks
-    ∙ ap (λ (k : List Note). k ++ terms_notes c.args.terms.now (option_copied c.args.supplier) context prices) c.in_ok-written.ensures.notes
-    ∙ append_assoc (note_views c.args.notes.now.items) (all_notes (outcome_in context) prices) (terms_notes c.args.terms.now (option_copied c.args.supplier) context prices))
-    (noted c)
+    subst (λ (k : List Note). OnOk c.push_all_remarks.result (note_views c.push_all_remarks.new.notes.items ≡ note_views c.args.notes.now.items ++ (all_notes (outcome_in context) prices ++ k))) (ap said remarks)
+    (on_ok_weaker c.push_all_remarks.result
+    (λ told. behind (note_views c.args.notes.now.items) (note_views c.written_in.new.notes.items) (note_views c.push_all_remarks.new.notes.items) (all_notes (outcome_in context) prices) (said c.as_slice-4.result.now)
+    c.in_ok-written.ensures.notes told)
+    (noted c))

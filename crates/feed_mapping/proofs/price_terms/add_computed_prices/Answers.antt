@@ -11,7 +11,7 @@ use Rattle.feed_mapping.specs.Elements.{Element, composites}
 use Rattle.feed_mapping.specs.Notes.{Note, note_views}
 use Rattle.feed_mapping.specs.Outcomes.{all_notes}
 use Rattle.feed_mapping.specs.Prices.{context_view}
-use Rattle.feed_mapping.specs.PriceTerms.{all_remark_notes, elements_in, outcome_in, places_view, records_with, terms_notes}
+use Rattle.feed_mapping.specs.PriceTerms.{all_remark_notes, elements_in, outcome_in, places_view, records_with}
 use Rattle.feed_mapping.specs.Records.{Records}
 use Rattle.feed_mapping.proofs.SeenPrices.{have-prices, records-are, said-of-each}
 use Rattle.feed_mapping.proofs.price_terms.add_computed_prices.Goals as goal

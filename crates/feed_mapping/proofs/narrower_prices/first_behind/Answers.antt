@@ -1,6 +1,5 @@
-use Rattle.std.proofs.Common.{◌≡◌, ◌∙◌, ℕ, List, ap}
+use Rattle.std.proofs.Common.{◌∙◌, ℕ, List, ap}
 use Rattle.feed_mapping.specs.Narrower.{all_excluded, countries_without}
-use Rattle.feed_mapping.specs.Prices.{alike_in, context_view}
 use Rattle.feed_mapping.specs.Regions.{countries_written}
 use Rattle.feed_mapping.specs.Territories.{Area, area_in}
 use Rattle.feed_mapping.specs.declared.narrower.Alike.{Alike}

@@ -6,7 +6,7 @@ use Rattle.feed_mapping.specs.declared.narrower.Alike.{Alike}
 use Rattle.feed_mapping.specs.declared.narrower.First.{First}
 use Rattle.feed_mapping.proofs.narrower_prices.first_behind.Goals as goal
 
-made : Alike → List (List ℕ) → First
+abbrev made : Alike → List (List ℕ) → First
 made alike countries = record { alike = alike; countries = countries }
 
 pub returns : goal.returns

@@ -1,5 +1,5 @@
 -- How many products are wrong, and how many may be; whose SupplyDetails they have.
-use Rattle.std.specs.Prelude.{ℕ, ◌+◌, ◌*◌, Bool, false, not, ◌&&◌, ◌||◌, nat_lt, List}
+use Rattle.std.specs.Prelude.{ℕ, ◌+◌, ◌*◌, Bool, true, false, not, ◌&&◌, ◌||◌, nat_lt, List}
 use Rattle.std.specs.Prelude.{Option, Some, None, if◌then◌else◌, option_map}
 use Rattle.std.specs.List.{list_any}
 use Rattle.std.specs.Option.{option_or}
@@ -10,7 +10,7 @@ use Rattle.feed_mapping.specs.Notes.{Note, is_of_others as says_others}
 use Rattle.feed_mapping.specs.Parties.{Pair}
 use Rattle.feed_mapping.specs.ProductRecords.{has_wrong}
 use Rattle.feed_mapping.specs.Products.{reference_in}
-use Rattle.feed_mapping.specs.SupplierCounts.{has_named, has_other}
+use Rattle.feed_mapping.specs.SupplierCounts.{has_detail}
 use Rattle.feed_conversion.specs.declared.options.Allowed.{Allowed}
 use Rattle.feed_conversion.specs.declared.options.Allowed.TheVariants.{AllWrong, FewWrong, NoWrong}
 use Rattle.feed_conversion.specs.declared.refusal.Refusal.{Refusal}
@@ -59,8 +59,8 @@ tallied t c notes =
 -- with the suppliers of one more product
 abbrev pub with_suppliers : Option Pair → Nodes → Tally → Tally
 with_suppliers named product t = record t {
-  has_named = t.has_named || has_named named product;
-  has_other = t.has_other || has_other named product;
+  has_named = t.has_named || has_detail named false product;
+  has_other = t.has_other || has_detail named true product;
 }
 
 -- What is told of all products at the end: how many are wrong, whether one of other suppliers alone

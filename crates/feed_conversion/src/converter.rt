@@ -7,7 +7,6 @@ ghost use Rattle.feed_mapping.specs.Notes.{note_views};
 ghost use Rattle.feed_mapping.specs.PartyViews.{pair_view};
 ghost use Rattle.feed_mapping.specs.SupplyChoices.{supply_choices_view};
 ghost use Rattle.feed_mapping.specs.ProductRecords.{smaller_variants, smallest_variant};
-ghost use Rattle.feed_mapping.specs.Products.{bare_record};
 ghost use Rattle.feed_conversion.specs.private.Stages.{IsKept, after_element, after_product, at_stage, begun_by, first_begun, first_state, seen_by, stored, noted, stage_after_header, stage_after_stranger, unbegun, with_variant, with_variants, with_product};
 ghost use Rattle.feed_conversion.specs.Conversion.{Options as Chosen, supply_choices};
 ghost use Rattle.feed_conversion.specs.Views.{options_view};

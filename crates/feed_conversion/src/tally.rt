@@ -8,7 +8,7 @@ ghost use Rattle.feed_conversion.specs.Tallies.{counted, is_flawed, is_of_others
 
 use crate::options::Allowed;
 use crate::refusal::Refusal;
-use feed_mapping::{Composite, Note, Pair, has_named, has_other, text_or_empty};
+use feed_mapping::{Composite, Note, Pair, has_detail, text_or_empty};
 use feed_outline::Elements;
 use feed_xml::Position;
 use onix_terms::items::Items;
@@ -85,8 +85,8 @@ impl Tally {
         ensures { self.new
             ≡ with_suppliers (option_map pair_view named.entry) product.now self.old }
     {
-        self.has_named = either(self.has_named, has_named(named, product));
-        self.has_other = either(self.has_other, has_other(named, product));
+        self.has_named = either(self.has_named, has_detail(named, false, product));
+        self.has_other = either(self.has_other, has_detail(named, true, product));
     }
 }
 

@@ -21,6 +21,9 @@ fn words_of_foreign(kind: Foreign) -> &'static str {
         Foreign::DateFormat => "PriceDate in format ..",
         Foreign::NoCharge => "PriceAmount .. is no price",
         Foreign::BesideDates => "beside a Price that is left out for its PriceDates",
+        Foreign::LongTerritory => {
+            "CountriesExcluded with the countries of Prices beside it has more than 1,024 bytes"
+        }
         Foreign::RegionAlone => "the region .. without a country or WORLD",
         Foreign::RegionOfNoCountry => "the region .., no part of a country",
         Foreign::RegionIncluded => "the region .. beside a country or WORLD",

@@ -3,7 +3,7 @@ use Rattle.std.proofs.Common.{◌≡◌, ◌≤◌, ◌<◌, ◌/◌, ◌%◌, �
 use Rattle.std.specs.Prelude.{◌==◌, ◌&&◌, ◌||◌, codes, decimal, if◌then◌else◌, nat_lt}
 use Rattle.std.specs.Char.{is_ascii, is_ascii_digit}
 use Rattle.std.specs.List.{AllByRecursion, flat_map, list_all}
-use Rattle.std.specs.Option.{option_to_list, unwrap_or}
+use Rattle.std.specs.Option.{option_map_or, option_or, option_to_list}
 use Rattle.std.specs.Str.{is_utf8}
 use Rattle.std.proofs.lemmas.Bool.{and_from, and_parts, eqb-true}
 use Rattle.std.proofs.lemmas.Bool.Decides.{nat_tests}
@@ -21,7 +21,7 @@ use Rattle.onix_terms.specs.Territory.{territory_of}
 use Rattle.onix_terms.proofs.DigitTexts.{own, two-digits}
 use Rattle.onix_terms.proofs.Ranges.{amount-range, positive-range}
 use Rattle.onix_records.specs.Fields.{is_clean, optional, or_default}
-use Rattle.onix_records.specs.Price.{minimum_fields, minimum_of, price_from, price_of, quantity_or_one}
+use Rattle.onix_records.specs.Price.{day_field, minimum_fields, minimum_of, price_from, price_of, quantity_or_one}
 use Rattle.onix_records.specs.declared.parts.Header.{Header}
 use Rattle.onix_records.specs.declared.parts.Price.{Price}
 use Rattle.onix_records.specs.declared.row.Form.{Form}
@@ -39,13 +39,14 @@ use Rattle.feed_terms.specs.declared.price.Discount.{Discount}
 use Rattle.feed_terms.specs.declared.price.GivenPrice.{GivenPrice}
 use Rattle.feed_terms.specs.declared.term.Term.{Term}
 use Rattle.feed_mapping.specs.Elements.{Composite, each_at, text_at}
-use Rattle.feed_mapping.specs.Notes.{Reason, wrong}
+use Rattle.feed_mapping.specs.Notes.{Reason, foreign}
+use Rattle.feed_mapping.specs.declared.notes.Foreign.TheVariants.{LongTerritory}
 use Rattle.feed_mapping.specs.Outcomes.{Outcome, all_records, nothing, outcome_records}
-use Rattle.feed_mapping.specs.Prices.{PriceContext, closed_reason, date_reason, early_reasons, field_reasons, is_nothing, last_reason, outcome_of, price_fields, price_outcome, price_reasons, record_reason}
+use Rattle.feed_mapping.specs.Prices.{PriceContext, closed_reason, date_reason, early_reasons, free_reason, is_nothing, last_reason, long_reason, minimum_written, narrowed, outcome_of, price_outcome, price_reasons, record_reason, right_days, territory_written, written_fields}
 use Rattle.feed_mapping.specs.PriceTerms.{all_given, discount_in, given_by, given_of, outcome_in}
 use Rattle.feed_mapping.specs.Records.{first_some, parsed}
-use Rattle.feed_mapping.specs.declared.notes.Wrong.TheVariants as bad
-use Rattle.feed_mapping.proofs.PriceRows.{Reads, as-rows, cond-then, both, last-none, no-rows, one-first, or-first, price-row, said-read, taken}
+use Rattle.feed_mapping.specs.Territories.{area_fields, area_in}
+use Rattle.feed_mapping.proofs.PriceRows.{Reads, as-rows, cond-then, both, last-none, no-rows, one-first, or-none, price-row, said-read, taken}
 use Rattle.feed_mapping.proofs.Utf8Laws.{ascii-field, named-utf8}
 
 -- ---- what the terms see of a Price
@@ -53,18 +54,19 @@ use Rattle.feed_mapping.proofs.Utf8Laws.{ascii-field, named-utf8}
 -- nothing, where it is not written; else it, by the fields of its record
 abbrev pub IsSeen : PriceContext → Nodes → Outcome → Type 0
 IsSeen context nodes outcome =
-    ((outcome_records outcome ≡ []) × (given_by outcome (parsed (price_of context.opening) (price_fields context nodes)) (codes "Price" ∷ price_fields context nodes) nodes ≡ []))
-    ⊎ ((p : Price) × (outcome_records outcome ≡ (codes "Price" ∷ price_fields context nodes) ∷ [])
-    × (given_by outcome (parsed (price_of context.opening) (price_fields context nodes)) (codes "Price" ∷ price_fields context nodes) nodes ≡ given_of p (codes "Price" ∷ price_fields context nodes) nodes ∷ [])
-    × (parsed (price_of context.opening) (price_fields context nodes) ≡ Some p))
+    ((outcome_records outcome ≡ []) × (given_by outcome (parsed (price_of context.opening) (written_fields context nodes)) (codes "Price" ∷ written_fields context nodes) nodes ≡ []))
+    ⊎ ((p : Price) × (outcome_records outcome ≡ (codes "Price" ∷ written_fields context nodes) ∷ [])
+    × (given_by outcome (parsed (price_of context.opening) (written_fields context nodes)) (codes "Price" ∷ written_fields context nodes) nodes ≡ given_of p (codes "Price" ∷ written_fields context nodes) nodes ∷ [])
+    × (parsed (price_of context.opening) (written_fields context nodes) ≡ Some p))
 
 reason-seen : (context : PriceContext) (nodes : Nodes) (kind : Option Reason) → first_some (price_reasons context nodes) ≡ kind → IsSeen context nodes (outcome_of kind context nodes)
 reason-seen context nodes (Some kind) e = inl (refl, refl)
 reason-seen context nodes None e =
-    let last : last_reason context nodes ≡ None = last-none (early_reasons (date_reason nodes) nodes) (last_reason context nodes) e in
-    let none : record_reason context nodes ≡ None = or-first (record_reason context nodes) (closed_reason context nodes) last in
-    let (p, read) = taken (parsed (price_of context.opening) (price_fields context nodes)) (unwrap_or (first_some (field_reasons context.opening nodes)) (wrong bad.Price [])) none in
-    inr (p, refl, ap (λ (q : Option Price). given_by (outcome_of None context nodes) q (codes "Price" ∷ price_fields context nodes) nodes) read, read)
+    let last : last_reason context nodes ≡ None = last-none (early_reasons (date_reason nodes) (free_reason nodes) nodes) (last_reason context nodes) e in
+    let beside : option_or (closed_reason context nodes) (long_reason context nodes) ≡ None = or-none (record_reason context nodes) (option_or (closed_reason context nodes) (long_reason context nodes)) last in
+    let none : long_reason context nodes ≡ None = or-none (closed_reason context nodes) (long_reason context nodes) beside in
+    let (p, read) = taken (parsed (price_of context.opening) (written_fields context nodes)) (foreign LongTerritory []) none in
+    inr (p, refl, ap (λ (q : Option Price). given_by (outcome_of None context nodes) q (codes "Price" ∷ written_fields context nodes) nodes) read, read)
 
 pub seen : (context : PriceContext) (nodes : Nodes) → IsSeen context nodes (price_outcome context nodes)
 seen context nodes = go (is_nothing context nodes)
@@ -89,10 +91,22 @@ fit-more a b g h f k = (length-append a b ∙ omega (arith, f.0, k.0, length-app
     all [] none = k.1
     all (r ∷ rs) some = (some.0, all rs some.1)
 
+area-three : (x : Option (List ℕ)) (fields : List (List ℕ)) → length fields ≡ 3 → length (option_map_or (λ (excluded : List ℕ). [] ∷ codes "WORLD" ∷ excluded ∷ []) x fields) ≡ 3
+area-three None fields e = e
+area-three (Some excluded) fields e = refl
+
+-- the record of a Price has the nine fields that each has
+pub long-written : (context : PriceContext) (nodes : Nodes) → 9 ≤ length (codes "Price" ∷ written_fields context nodes)
+long-written context nodes =
+    let t = territory_written context nodes in
+    let behind : List (List ℕ) = day_field (right_days nodes).first ∷ day_field (right_days nodes).last ∷ [] in
+    let three : length t ≡ 3 = area-three (narrowed context nodes) (area_fields (area_in nodes)) refl in
+    omega (arith, three, length-append t behind, length-append (t ++ behind) (option_to_list (minimum_written context nodes)))
+
 one-fits : (context : PriceContext) (nodes : Nodes) (outcome : Outcome) → IsSeen context nodes outcome
-    → Fit (outcome_records outcome) (given_by outcome (parsed (price_of context.opening) (price_fields context nodes)) (codes "Price" ∷ price_fields context nodes) nodes)
+    → Fit (outcome_records outcome) (given_by outcome (parsed (price_of context.opening) (written_fields context nodes)) (codes "Price" ∷ written_fields context nodes) nodes)
 one-fits context nodes outcome (inl (bare, none)) = rw (bare, none) (refl, tt)
-one-fits context nodes outcome (inr (p, one, given, read)) = rw (one, given) (refl, (omega arith, tt))
+one-fits context nodes outcome (inr (p, one, given, read)) = rw (one, given) (refl, (long-written context nodes, tt))
 
 pub all-fit : (context : PriceContext) (cs : List Composite) → Fit (all_records (outcome_in context) cs) (all_given context cs)
 all-fit context [] = (refl, tt)
@@ -295,10 +309,10 @@ given-range o fields whole p nodes e =
 
 module _ (context : PriceContext) where
   plain-one : (nodes : Nodes) (outcome : Outcome) → IsSeen context nodes outcome → (records : List (List (List ℕ))) (given : List GivenPrice) → Reads context.opening records (map row.Price (map (λ g. g.price) given))
-      → Reads context.opening (outcome_records outcome ++ records) (map row.Price (map (λ g. g.price) (given_by outcome (parsed (price_of context.opening) (price_fields context nodes)) (codes "Price" ∷ price_fields context nodes) nodes ++ given)))
+      → Reads context.opening (outcome_records outcome ++ records) (map row.Price (map (λ g. g.price) (given_by outcome (parsed (price_of context.opening) (written_fields context nodes)) (codes "Price" ∷ written_fields context nodes) nodes ++ given)))
   plain-one nodes outcome (inl (bare, none)) records given rest = rw (bare, none) rest
   plain-one nodes outcome (inr (p, one, own, read)) records given rest =
-      rw (one, own) (price-first context.opening (price_fields context nodes) p records (map (λ g. g.price) given) read rest)
+      rw (one, own) (price-first context.opening (written_fields context nodes) p records (map (λ g. g.price) given) read rest)
 
   -- the records of Prices say what the terms see
   pub all-plain : (cs : List Composite) → Reads context.opening (all_records (outcome_in context) cs) (map row.Price (map (λ g. g.price) (all_given context cs)))
@@ -309,12 +323,12 @@ module _ (laws : TermLaws) (context : PriceContext) (two : context.opening.form 
   -- one Price, before what is behind it
   one-with : (nodes : Nodes) (outcome : Outcome) → IsSeen context nodes outcome → (records : List (List (List ℕ))) (given : List GivenPrice)
       → Reads context.opening (with_all terms supplier held records given) (map row.Price (prices_with terms supplier held given))
-      → Reads context.opening (with_all terms supplier held (outcome_records outcome ++ records) (given_by outcome (parsed (price_of context.opening) (price_fields context nodes)) (codes "Price" ∷ price_fields context nodes) nodes ++ given))
-      (map row.Price (prices_with terms supplier held (given_by outcome (parsed (price_of context.opening) (price_fields context nodes)) (codes "Price" ∷ price_fields context nodes) nodes ++ given)))
+      → Reads context.opening (with_all terms supplier held (outcome_records outcome ++ records) (given_by outcome (parsed (price_of context.opening) (written_fields context nodes)) (codes "Price" ∷ written_fields context nodes) nodes ++ given))
+      (map row.Price (prices_with terms supplier held (given_by outcome (parsed (price_of context.opening) (written_fields context nodes)) (codes "Price" ∷ written_fields context nodes) nodes ++ given)))
   one-with nodes outcome (inl (bare, none)) records given rest = rw (bare, none) rest
   one-with nodes outcome (inr (p, one, own, read)) records given rest =
       let o = context.opening in
-      let fields = price_fields context nodes in
+      let fields = written_fields context nodes in
       let g = given_of p (codes "Price" ∷ fields) nodes in
       let s = said-read (price_of o) fields p read in
       let cs = written_of terms supplier held g in

@@ -1,5 +1,6 @@
 pub mod WordLaws
 pub mod DateLaws
+pub mod NarrowerLaws
 pub mod PriceLaws
 pub mod TerritorySets
 pub mod LetterLaws

@@ -9,7 +9,7 @@ use Rattle.feed_mapping.specs.Elements.{Composite, each_at, first}
 use Rattle.feed_mapping.specs.Notes.{Reason}
 use Rattle.feed_mapping.specs.Outcomes.{all_records, notes_below, nothing, outcome_reason, outcome_records}
 use Rattle.feed_mapping.specs.PriceFates.{HasDetails, HasPrices, HasSupplies, IsPrice}
-use Rattle.feed_mapping.specs.Prices.{PriceContext, is_nothing, outcome_of, price_fields, price_outcome, price_reasons}
+use Rattle.feed_mapping.specs.Prices.{PriceContext, is_nothing, outcome_of, written_fields, price_outcome, price_reasons}
 use Rattle.feed_mapping.specs.ProductRecords.{fate_of, notification_written, supplies_in, written_notes}
 use Rattle.feed_mapping.specs.Products.{identifier_notes, own_reason, product_record, reference_in, right_pairs}
 use Rattle.feed_mapping.specs.Records.{first_some, is_field}
@@ -18,7 +18,7 @@ use Rattle.feed_mapping.specs.SupplyChoices.{SupplyChoices}
 use Rattle.feed_mapping.specs.Supplies.{detail_in, details_in, supplies_reason, supply_markets, supply_outcome}
 
 reason-is : (context : PriceContext) (nodes : Nodes) (kind : Option Reason) → IsPrice context nodes (outcome_of kind context nodes)
-reason-is context nodes None = (price_fields context nodes, refl)
+reason-is context nodes None = (written_fields context nodes, refl)
 reason-is context nodes (Some kind) = tt
 
 price-is : (context : PriceContext) (nodes : Nodes) → IsPrice context nodes (price_outcome context nodes)

@@ -2,7 +2,7 @@
 use Rattle.std.proofs.Common.{◌≡◌, ℕ, List, [], ◌∷◌, ◌++◌, Bool, true, false, Option, Some, None, map, refl, sym, ap, ◌∙◌, subst}
 use Rattle.std.specs.Prelude.{if◌then◌else◌, option_map, codes, is_some}
 use Rattle.std.specs.List.{list_all}
-use Rattle.std.specs.Option.{option_or, unwrap_or}
+use Rattle.std.specs.Option.{option_or}
 use Rattle.std.specs.Str.{is_utf8}
 use Rattle.std.proofs.lemmas.List.{map-append}
 use Rattle.std.proofs.lemmas.Option.{same_Some}
@@ -22,11 +22,11 @@ use Rattle.onix_records.specs.declared.row.Row.{Row}
 use Rattle.onix_records.specs.declared.row.Row.TheVariants as row
 use Rattle.feed_mapping.specs.Details.{context_in, price_in}
 use Rattle.feed_mapping.specs.Elements.{Composite}
-use Rattle.feed_mapping.specs.Notes.{Reason, wrong}
+use Rattle.feed_mapping.specs.Notes.{Reason, foreign}
+use Rattle.feed_mapping.specs.declared.notes.Foreign.TheVariants.{LongTerritory}
 use Rattle.feed_mapping.specs.Outcomes.{all_records, nothing, outcome_records}
-use Rattle.feed_mapping.specs.Prices.{PriceContext, closed_reason, date_reason, early_reasons, field_reasons, is_nothing, last_reason, outcome_of, price_fields, price_outcome, price_reasons, record_reason}
+use Rattle.feed_mapping.specs.Prices.{PriceContext, closed_reason, date_reason, early_reasons, free_reason, is_nothing, last_reason, long_reason, outcome_of, price_outcome, price_reasons, record_reason, written_fields}
 use Rattle.feed_mapping.specs.Records.{clean, first_some, parsed}
-use Rattle.feed_mapping.specs.declared.notes.Wrong.TheVariants as bad
 use Rattle.feed_mapping.proofs.Utf8Laws.{are_utf8, named-utf8, utf8-first, utf8-joined}
 
 abbrev pub Records : Type 0
@@ -122,10 +122,6 @@ pub or-none : {A : Type 0} (x y : Option A) → option_or x y ≡ None → y ≡
 or-none None y e = e
 or-none (Some a) y e = cc e
 
-pub or-first : {A : Type 0} (x y : Option A) → option_or x y ≡ None → x ≡ None
-or-first None y e = refl
-or-first (Some a) y e = cc e
-
 pub taken : {A B : Type 0} (x : Option A) (w : B) → (if is_some x then None else Some w) ≡ None → (p : A) × (x ≡ Some p)
 taken (Some p) w e = (p, refl)
 taken None w e = cc e
@@ -138,13 +134,14 @@ pub reason-rows : (context : PriceContext) (nodes : Nodes) (kind : Option Reason
     → ArePrices context.opening (outcome_records (outcome_of kind context nodes))
 reason-rows context nodes (Some kind) e = ([], no-rows context.opening)
 reason-rows context nodes None e =
-    let last : last_reason context nodes ≡ None = last-none (early_reasons (date_reason nodes) nodes) (last_reason context nodes) e in
-    let none : record_reason context nodes ≡ None = or-first (record_reason context nodes) (closed_reason context nodes) last in
-    let (p, read) = taken (parsed (price_of context.opening) (price_fields context nodes)) (unwrap_or (first_some (field_reasons context.opening nodes)) (wrong bad.Price [])) none in
-    let s = said-read (price_of context.opening) (price_fields context nodes) p read in (
+    let last : last_reason context nodes ≡ None = last-none (early_reasons (date_reason nodes) (free_reason nodes) nodes) (last_reason context nodes) e in
+    let beside : option_or (closed_reason context nodes) (long_reason context nodes) ≡ None = or-none (record_reason context nodes) (option_or (closed_reason context nodes) (long_reason context nodes)) last in
+    let none : long_reason context nodes ≡ None = or-none (closed_reason context nodes) (long_reason context nodes) beside in
+    let (p, read) = taken (parsed (price_of context.opening) (written_fields context nodes)) (foreign LongTerritory []) none in
+    let s = said-read (price_of context.opening) (written_fields context nodes) p read in (
       p ∷ [],
-      one-first context.opening (codes "Price" ∷ price_fields context nodes) (row.Price p) [] [] (price-row context.opening (price_fields context nodes) p s.clean s.is)
-          (named-utf8 (codes "Price") (price_fields context nodes) refl s.utf8) (no-rows context.opening),
+      one-first context.opening (codes "Price" ∷ written_fields context nodes) (row.Price p) [] [] (price-row context.opening (written_fields context nodes) p s.clean s.is)
+          (named-utf8 (codes "Price") (written_fields context nodes) refl s.utf8) (no-rows context.opening),
     )
 
 pub price-rows : (context : PriceContext) (nodes : Nodes) → ArePrices context.opening (outcome_records (price_outcome context nodes))

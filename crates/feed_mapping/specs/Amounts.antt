@@ -52,6 +52,10 @@ module _ (nodes : Nodes) where
   abbrev pub amount_said : List ℕ
   amount_said = cut_zeros (point_in (text_at "PriceAmount" nodes)) (text_at "PriceAmount" nodes)
 
+  -- the text of an amount that is rounded
+  abbrev pub rounded_text : Option (List ℕ)
+  rounded_text = option_map amount_text (rounded_amount amount_said)
+
   -- an amount as it is written: rounded where it has more than three decimals, else as it stands
   abbrev pub amount_written : List ℕ
   amount_written = option_map_or amount_text (rounded_amount amount_said) amount_said

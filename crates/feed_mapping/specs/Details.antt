@@ -18,13 +18,15 @@ use Rattle.feed_mapping.specs.OtherSuppliers.{own_details}
 use Rattle.feed_mapping.specs.Outcomes.{Outcome, all_notes, all_records, written_unless}
 use Rattle.feed_mapping.specs.Parties.{Pair, is_there, pair}
 use Rattle.feed_mapping.specs.PriceTerms.{records_with, supplier_of, terms_notes}
-use Rattle.feed_mapping.specs.Prices.{PriceContext, closing_keys, first_with_text, price_outcome}
+use Rattle.feed_mapping.specs.Prices.{PriceContext, closing_kinds, first_with_text, firsts_in}
+use Rattle.feed_mapping.specs.Prices.{price_outcome}
 use Rattle.feed_mapping.specs.SupplyChoices.{SupplyChoices}
 use Rattle.feed_mapping.specs.Records.{Fields, Records, desk_reason, first_some, is_field, option_filter}
 use Rattle.feed_mapping.specs.Records.{parsed}
 use Rattle.feed_mapping.specs.Records.{parsed_term, unless, invalid}
+use Rattle.feed_mapping.specs.declared.narrower.First.{First}
 use Rattle.feed_mapping.specs.declared.notes.Wrong.TheVariants as bad
-use Rattle.feed_mapping.specs.declared.price_keys.Key.{Key}
+use Rattle.feed_terms.specs.declared.price.Kind.{Kind}
 
 -- the UnpricedItemType of a Price without an amount, where it is a code
 abbrev pub unpriced_price : Nodes → Option (List ℕ)
@@ -111,20 +113,22 @@ first_detail_reason supplier preferred nodes =
     option_and_then (λ c. detail_reason preferred c.below) (first (own_details supplier nodes))
 
 module _ (o : Opening) where
-  -- the context of the Prices of a SupplyDetail, by what closes them
-  abbrev pub context_by : List Key → Nodes → PriceContext
-  context_by closed nodes = record {
+  -- the context of the Prices of a SupplyDetail, by what closes them, and what goes before them
+  abbrev pub context_by : List Kind → List First → Nodes → PriceContext
+  context_by closed firsts nodes = record {
     opening = o;
     is_unpriced = is_some (unpriced_in nodes);
     minimum = default_minimum nodes;
     closed = closed;
+    firsts = firsts;
   }
 
   -- the context of the Prices of a SupplyDetail: those close others that would be written but for
   -- their PriceDates
   abbrev pub context_in : Nodes → PriceContext
   context_in nodes =
-      context_by (closing_keys (context_by [] nodes) (prices_in nodes)) nodes
+      context_by (closing_kinds (context_by [] [] nodes) (prices_in nodes))
+      (firsts_in (context_by [] [] nodes) (prices_in nodes)) nodes
 
   -- what a Price of a SupplyDetail with these elements comes to
   abbrev pub price_in : Nodes → Composite → Outcome

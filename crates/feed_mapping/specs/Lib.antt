@@ -8,6 +8,8 @@ pub mod Records
 pub mod Amounts
 pub mod Outcomes
 pub mod Territories
+pub mod Narrower
+pub mod NarrowerSets
 pub mod Dates
 pub mod DateViews
 pub mod Prices

@@ -20,15 +20,16 @@ use Rattle.feed_terms.specs.declared.price.GivenPrice.{GivenPrice}
 use Rattle.feed_terms.specs.declared.price.Kind.{Kind}
 use Rattle.feed_terms.specs.declared.term.Term.{Term}
 use Rattle.feed_mapping.specs.Again.{comes_again}
-use Rattle.feed_mapping.specs.Elements.{Composite, Element, each_at}
+use Rattle.feed_mapping.specs.Elements.{Composite, Element, each_at, element_view}
 use Rattle.feed_mapping.specs.Elements.{some_at, text_at}
 use Rattle.feed_mapping.specs.Notes.{Note, foreign, note}
 use Rattle.feed_mapping.specs.Outcomes.{Outcome, all_records, written}
 use Rattle.feed_mapping.specs.Parties.{Pair, is_there}
-use Rattle.feed_mapping.specs.Prices.{PriceContext, is_for_others, key_in, price_fields}
+use Rattle.feed_mapping.specs.Prices.{PriceContext, is_for_others, kind_in, written_fields}
 use Rattle.feed_mapping.specs.Prices.{price_outcome}
 use Rattle.feed_mapping.specs.Records.{Fields, Records, parsed, parsed_term}
 use Rattle.feed_mapping.specs.declared.notes.Foreign.TheVariants as other
+use Rattle.feed_mapping.specs.declared.price_terms.Place.{Place}
 
 -- ---- what a Price says to the terms
 
@@ -103,14 +104,7 @@ abbrev pub given_by : Outcome → Option Price → Fields → Nodes → List Giv
 given_by (written records notes) (Some price) fields nodes = given_of price fields nodes ∷ []
 given_by outcome price fields nodes = []
 
--- the type and the currency of a Price, or those of the header, each where it is one
-abbrev pub kind_in : Opening → Nodes → Kind
-kind_in o nodes = record {
-  price_type = (key_in o nodes).price_type;
-  currency = (key_in o nodes).currency;
-}
-
--- the same, unless it is for others
+-- the type and the currency of a Price, or those of the header, unless it is for others
 abbrev pub kinds_closed : Opening → Nodes → List Kind
 kinds_closed o nodes = if is_for_others nodes then [] else kind_in o nodes ∷ []
 
@@ -119,8 +113,8 @@ module _ (context : PriceContext) where
   abbrev pub given_in : Nodes → List GivenPrice
   given_in nodes =
       given_by (price_outcome context nodes)
-      (parsed (price_of context.opening) (price_fields context nodes))
-      (codes "Price" ∷ price_fields context nodes) nodes
+      (parsed (price_of context.opening) (written_fields context nodes))
+      (codes "Price" ∷ written_fields context nodes) nodes
 
   -- of some Prices
   abbrev pub all_given : List Composite → List GivenPrice
@@ -130,13 +124,10 @@ module _ (context : PriceContext) where
   abbrev pub outcome_in : Composite → Outcome
   outcome_in c = price_outcome context c.below
 
-  -- whether they see a Price
-  abbrev pub is_seen : Composite → Bool
-  is_seen c = nat_lt 0 (length (given_in c.below))
-
   -- the type and the currency of a Price that gives no record, unless it is for others
   abbrev pub closed_by : Composite → List Kind
-  closed_by c = if is_seen c then [] else kinds_closed context.opening c.below
+  closed_by c =
+      if nat_lt 0 (length (given_in c.below)) then [] else kinds_closed context.opening c.below
 
   -- those of some Prices
   abbrev pub closed_kinds : List Composite → List Kind
@@ -146,13 +137,17 @@ module _ (context : PriceContext) where
   abbrev pub elements_in : Composite → List Element
   elements_in c = map (λ g. c.element) (given_in c.below)
 
--- what the terms see of the Prices of a SupplyDetail fits these records, and whether each is
--- written
+-- the elements that stand in places
+abbrev pub places_view : List Place → List Element
+places_view places = map (λ p. element_view p.line.now) places
+
+-- what the terms see of the Prices of a SupplyDetail fits these records, and these elements are
+-- those of the Prices that they see
 pub record AreWritten (context : PriceContext) (prices : List Composite) (kept : Records)
-    (seen : List GivenPrice) (flags : List Bool) (kinds : List Kind) : Type 0 where
+    (seen : List GivenPrice) (elements : List Element) (kinds : List Kind) : Type 0 where
   pub records : kept ≡ all_records (outcome_in context) prices
   pub given : seen ≡ all_given context prices
-  pub are_written : flags ≡ map (is_seen context) prices
+  pub places : elements ≡ flat_map (elements_in context) prices
   pub closed : kinds ≡ closed_kinds context prices
 
 -- a supplier as a term has it, by an identifier that is there and UTF-8

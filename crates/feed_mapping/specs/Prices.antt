@@ -2,13 +2,14 @@
 use Prim.Native.String.{String}
 use Rattle.std.specs.Prelude.{ℕ, Bool, false, ◌&&◌, ◌||◌, nat_lt}
 use Rattle.std.specs.Prelude.{List, [], ◌∷◌, ◌++◌, Option, Some, None, if◌then◌else◌, codes}
-use Rattle.std.specs.Prelude.{find, map, not, option_map, is_none, is_some}
+use Rattle.std.specs.Prelude.{find, fold, map, not, option_map, is_none, is_some}
 use Rattle.std.specs.List.{flat_map, list_any}
-use Rattle.std.specs.Option.{option_or, option_to_list, unwrap_or}
+use Rattle.std.specs.Option.{option_map_or, option_or, option_to_list, unwrap_or}
 use Rattle.std.specs.Result.{result_err, result_unwrap_or}
 use Rattle.std.specs.Str.{bytes_eq}
 use Rattle.feed_outline.specs.Composites.{text_in}
 use Rattle.feed_outline.specs.Nodes.{Nodes}
+use Rattle.feed_xml.specs.Grammar.{is_filled}
 use Rattle.onix_records.specs.Fields.{optional, or_default}
 use Rattle.onix_records.specs.Price.{day_field, price_of}
 use Rattle.onix_records.specs.declared.row.Opening.{Opening}
@@ -19,34 +20,40 @@ use Rattle.feed_mapping.specs.Amounts.{rounded_amount, written_amount}
 use Rattle.feed_mapping.specs.Dates.{days, days_in}
 use Rattle.feed_mapping.specs.declared.dates.Days.{Days}
 use Rattle.feed_mapping.specs.Elements.{Composite, composites, each_at, first, some_at, text_at}
+use Rattle.feed_mapping.specs.Narrower.{all_excluded, countries_without, excluded_then}
 use Rattle.feed_mapping.specs.Notes.{Note, Reason, Reasons, foreign, is_wrong, note}
 use Rattle.feed_mapping.specs.Notes.{wrong}
 use Rattle.feed_mapping.specs.Outcomes.{Outcome, nothing, written_unless}
 use Rattle.feed_mapping.specs.Records.{Fields, desk_reason, first_some, option_filter, parsed}
 use Rattle.feed_mapping.specs.Records.{parsed_term}
 use Rattle.feed_mapping.specs.Records.{invalid}
+use Rattle.feed_mapping.specs.Regions.{countries_written, names_world}
 use Rattle.feed_mapping.specs.Territories.{Area, area_fields, area_in, area_reason, form_reasons}
 use Rattle.feed_mapping.specs.Territories.{territory_notes, unsupported}
+use Rattle.feed_mapping.specs.declared.narrower.Alike.{Alike}
+use Rattle.feed_mapping.specs.declared.narrower.First.{First}
 use Rattle.feed_mapping.specs.declared.notes.Foreign.{Foreign}
 use Rattle.feed_mapping.specs.declared.notes.Foreign.TheVariants.{BesideDates, CurrencyZone}
 use Rattle.feed_mapping.specs.declared.notes.Foreign.TheVariants.{Discount, EpubLicenseWithDate}
 use Rattle.feed_mapping.specs.declared.notes.Foreign.TheVariants.{DiscountCoded, EpubLicense}
-use Rattle.feed_mapping.specs.declared.notes.Foreign.TheVariants.{NoCharge, Rounded}
+use Rattle.feed_mapping.specs.declared.notes.Foreign.TheVariants.{LongTerritory, NoCharge, Rounded}
 use Rattle.feed_mapping.specs.declared.notes.Foreign.TheVariants.{PriceCoded, PriceCondition}
 use Rattle.feed_mapping.specs.declared.notes.Foreign.TheVariants.{PriceConstraint, PricePer}
 use Rattle.feed_mapping.specs.declared.notes.Foreign.TheVariants.{PriceQualifier}
 use Rattle.feed_mapping.specs.declared.notes.Wrong.TheVariants as bad
-use Rattle.feed_mapping.specs.declared.price_keys.Key.{Key}
+use Rattle.feed_terms.specs.declared.price.Kind.{Kind}
 use Rattle.feed_mapping.specs.declared.prices.PriceContext.{PriceContext as Lent}
 
 -- The context of a Price: what its message begins with, whether the record of its SupplyDetail has
--- an UnpricedItemType, the quantity that stands for a minimum that is not greater, and the types
--- and currencies of which a Price beside it is left out for its PriceDates alone.
+-- an UnpricedItemType, the quantity that stands for a minimum that is not greater, the types and
+-- currencies of which a Price beside it is left out for its PriceDates alone, and the Prices beside
+-- it that go before one of the world.
 pub record PriceContext : Type 0 where
   pub opening : Opening
   pub is_unpriced : Bool
   pub minimum : Option (List ℕ)
-  pub closed : List Key
+  pub closed : List Kind
+  pub firsts : List First
 
 -- ---- the record
 
@@ -58,6 +65,10 @@ module _ (nodes : Nodes) where
   -- the MinimumOrderQuantity of a Price: one of zeros alone is as absent
   abbrev pub own_minimum : Option (List ℕ)
   own_minimum = option_filter (λ text. not (are_zeros text)) (some_at "MinimumOrderQuantity" nodes)
+
+-- the number of copies from which a Price holds with this minimum
+abbrev pub copies_of : Option (List ℕ) → ℕ
+copies_of minimum = option_map_or (λ text. unwrap_or (parsed_term quantity_of text) 1) minimum 1
 
 -- whether a quantity is greater than another, where both are quantities
 abbrev pub is_greater : Option ℕ → Option ℕ → Bool
@@ -74,16 +85,24 @@ greater_of (Some own) (Some other) =
 
 -- The fields that each Price has behind its name, empty where it has none: type, amount, currency,
 -- territory, the first and the last day.
-abbrev pub eight_fields : Area → Days → Nodes → Fields
-eight_fields a d nodes =
+abbrev pub eight_fields : Fields → Days → Nodes → Fields
+eight_fields territory d nodes =
     text_at "PriceType" nodes ∷ amount_written nodes ∷ text_at "CurrencyCode" nodes
-    ∷ (area_fields a ++ (day_field d.first ∷ day_field d.last ∷ []))
+    ∷ (territory ++ (day_field d.first ∷ day_field d.last ∷ []))
 
--- the fields of a Price: those, and a minimum where it or its SupplyDetail has one
-abbrev pub price_fields : PriceContext → Nodes → Fields
-price_fields context nodes =
-    eight_fields (area_in nodes) (right_days nodes) nodes
-    ++ option_to_list (greater_of (own_minimum nodes) context.minimum)
+module _ (context : PriceContext) (nodes : Nodes) where
+  -- a minimum, where a Price or its SupplyDetail has one
+  abbrev pub minimum_written : Option (List ℕ)
+  minimum_written = greater_of (own_minimum nodes) context.minimum
+
+  -- the fields of a Price in this territory
+  abbrev pub fields_in : Fields → Fields
+  fields_in territory =
+      eight_fields territory (right_days nodes) nodes ++ option_to_list minimum_written
+
+  -- the fields of a Price as it stands
+  abbrev pub price_fields : Fields
+  price_fields = fields_in (area_fields (area_in nodes))
 
 -- ---- why a Price is left out
 
@@ -119,13 +138,17 @@ module _ (nodes : Nodes) where
 abbrev pub date_reason : Nodes → Option Reason
 date_reason nodes = result_err (days_in nodes)
 
-module _ (dated : Option Reason) (nodes : Nodes) where
+-- that the amount of a Price is 0
+abbrev pub free_reason : Nodes → Option Reason
+free_reason nodes = option_map (foreign NoCharge) (option_filter is_zero (Some (amount_said nodes)))
+
+module _ (dated free : Option Reason) (nodes : Nodes) where
   -- for where, for how much and between which days a Price holds; behind those what is wrong:
   -- the elements of ONIX 2.1, a territory that does not say where, and its dates
   abbrev pub late_reasons : Reasons
   late_reasons =
       unsupported (area_in nodes)
-      ∷ option_map (foreign NoCharge) (option_filter is_zero (Some (amount_said nodes)))
+      ∷ free
       ∷ option_filter (λ r. not (is_wrong r.kind)) dated
       ∷ option_map (wrong bad.OldElement) (old_element nodes)
       ∷ first_some (form_reasons (area_in nodes))
@@ -157,14 +180,11 @@ module _ (nodes : Nodes) where
       || is_some (other_type nodes "PriceCondition" "PriceConditionType")
       || is_some (other_type nodes "PriceConstraint" "PriceConstraintType")
 
-  -- whether it is for those who have a licence
-  abbrev pub is_licensed : Bool
-  is_licensed =
-      is_some (mark_in nodes "EpubLicense") || is_some (mark_in nodes "EpubLicenseWithDate")
-
-  -- whether it is one of these, or of 0
+  -- whether it is one of these, for those who have a licence, or of 0
   abbrev pub is_for_others : Bool
-  is_for_others = is_limited || is_licensed || is_zero (amount_said nodes)
+  is_for_others =
+      is_limited || is_some (mark_in nodes "EpubLicense")
+      || is_some (mark_in nodes "EpubLicenseWithDate") || is_zero (amount_said nodes)
 
 -- Which fields of a Price the desk does not take, each where it does not: it is outside its
 -- grammar, or it is empty and has no default in the header.
@@ -179,9 +199,13 @@ field_reasons o nodes =
     ∷ invalid (optional (parsed_term quantity_of)) bad.Quantity (unwrap_or (own_minimum nodes) [])
     ∷ []
 
+-- whether a territory is countries without the world
+abbrev pub is_of_countries : Area → Bool
+is_of_countries a = is_filled a.included && not (names_world a.regions_included)
+
 -- the price type and the currency of a Price, or those of the header
-abbrev pub key_in : Opening → Nodes → Key
-key_in o nodes = record {
+abbrev pub kind_in : Opening → Nodes → Kind
+kind_in o nodes = record {
   price_type = or_default (parsed_term code2_of) o.header.default_type (text_at "PriceType" nodes);
   currency =
       or_default (parsed_term currency_of) o.header.default_currency
@@ -193,8 +217,8 @@ abbrev pub are_same : Option (List ℕ) → Option (List ℕ) → Bool
 are_same (Some a) (Some b) = bytes_eq a b
 are_same a b = false
 
-abbrev pub is_key : Key → Key → Bool
-is_key a b = are_same a.price_type b.price_type && are_same a.currency b.currency
+abbrev pub is_kind : Kind → Kind → Bool
+is_kind a b = are_same a.price_type b.price_type && are_same a.currency b.currency
 
 module _ (context : PriceContext) (nodes : Nodes) where
   -- whether the desk takes the record of a Price
@@ -210,16 +234,47 @@ module _ (context : PriceContext) (nodes : Nodes) where
   -- it might stand in the place of this one
   abbrev pub closed_reason : Option Reason
   closed_reason =
-      if list_any (is_key (key_in context.opening nodes)) context.closed
+      if list_any (is_kind (kind_in context.opening nodes)) context.closed
       then Some (foreign BesideDates []) else None
+
+  -- in what it is alike others
+  abbrev pub alike_in : Alike
+  alike_in = record {
+    kind = kind_in context.opening nodes;
+    copies = copies_of (minimum_written context nodes);
+    days = right_days nodes;
+  }
+
+  -- CountriesExcluded, where the Price holds in the world, and others go before it
+  abbrev pub narrowed : Option (List ℕ)
+  narrowed =
+      if is_of_countries (area_in nodes) then None
+      else excluded_then context.firsts alike_in (countries_written (area_in nodes).excluded)
+
+  -- the fields of its territory as they are written: as they stand, or the world without some
+  -- countries
+  abbrev pub territory_written : Fields
+  territory_written =
+      option_map_or (λ excluded. [] ∷ codes "WORLD" ∷ excluded ∷ []) narrowed
+      (area_fields (area_in nodes))
+
+  -- its fields as they are written
+  abbrev pub written_fields : Fields
+  written_fields = fields_in context nodes territory_written
+
+  -- that the desk would not take it so: its CountriesExcluded are longer than a field
+  abbrev pub long_reason : Option Reason
+  long_reason =
+      if is_some (parsed (price_of context.opening) written_fields) then None
+      else Some (foreign LongTerritory [])
 
   -- why a Price is left out that is none other than the desk knows
   abbrev pub last_reason : Option Reason
-  last_reason = option_or record_reason closed_reason
+  last_reason = option_or record_reason (option_or closed_reason long_reason)
 
   -- why a Price is left out, each where it holds: what is both foreign and wrong is foreign
   abbrev pub price_reasons : Reasons
-  price_reasons = early_reasons (date_reason nodes) nodes ++ last_reason ∷ []
+  price_reasons = early_reasons (date_reason nodes) (free_reason nodes) nodes ++ last_reason ∷ []
 
 -- ---- what a Price comes to
 
@@ -236,19 +291,15 @@ rounded_notes nodes =
     (first (each_at "PriceAmount" nodes)))
     else []
 
--- notes on what would make another price
-abbrev pub discount_notes : Nodes → List Note
-discount_notes nodes =
-    unread_notes (codes "Discount") Discount nodes
-    ++ unread_notes (codes "DiscountCoded") DiscountCoded nodes
-
--- notes on what is counted alone
+-- notes on what is counted alone: on what would make another price, and on a rounded amount
 abbrev pub counted_notes : Nodes → List Note
-counted_notes nodes = discount_notes nodes ++ rounded_notes nodes
+counted_notes nodes =
+    unread_notes (codes "Discount") Discount nodes
+    ++ (unread_notes (codes "DiscountCoded") DiscountCoded nodes ++ rounded_notes nodes)
 
 abbrev pub outcome_of : Option Reason → PriceContext → Nodes → Outcome
 outcome_of reason context nodes =
-    written_unless reason ((codes "Price" ∷ price_fields context nodes) ∷ [])
+    written_unless reason ((codes "Price" ∷ written_fields context nodes) ∷ [])
     (territory_notes (area_in nodes) ++ counted_notes nodes)
 
 module _ (context : PriceContext) (nodes : Nodes) where
@@ -266,16 +317,61 @@ module _ (context : PriceContext) (nodes : Nodes) where
       else outcome_of (first_some (price_reasons context nodes)) context nodes
 
 -- the type and currency of a Price that would be written but for its PriceDates
-abbrev pub closing_key : PriceContext → Nodes → Option Key
-closing_key context nodes =
+abbrev pub closing_kind : PriceContext → Nodes → Option Kind
+closing_kind context nodes =
     if is_nothing context nodes || is_none (date_reason nodes) then None
-    else if is_none (first_some (early_reasons None nodes)) && is_taken context nodes
-    then Some (key_in context.opening nodes)
+    else if is_none (first_some (early_reasons None (free_reason nodes) nodes))
+    && is_taken context nodes
+    then Some (kind_in context.opening nodes)
     else None
 
 -- those of some Prices
-abbrev pub closing_keys : PriceContext → List Composite → List Key
-closing_keys context prices = flat_map (λ p. option_to_list (closing_key context p.below)) prices
+abbrev pub closing_kinds : PriceContext → List Composite → List Kind
+closing_kinds context prices = flat_map (λ p. option_to_list (closing_kind context p.below)) prices
+
+-- ---- Prices that go before others
+
+-- whether a type or a currency is one, or lacks in a Price without an amount
+abbrev pub may_lack : Bool → List ℕ → Nodes → Bool
+may_lack is_one text nodes =
+    is_one || (not (is_filled text) && is_none (some_at "PriceAmount" nodes))
+
+module _ (context : PriceContext) (nodes : Nodes) where
+  -- whether its type, currency and minimum are such that it may be alike another
+  abbrev pub is_like : Bool
+  is_like =
+      may_lack (is_some (kind_in context.opening nodes).price_type)
+      (text_at "PriceType" nodes) nodes
+      && (may_lack (is_some (kind_in context.opening nodes).currency)
+      (text_at "CurrencyCode" nodes) nodes
+      && is_some (optional (parsed_term quantity_of) (unwrap_or (own_minimum nodes) [])))
+
+  -- whether a Price for countries is written, or would be but for its amount
+  abbrev pub is_first : Bool
+  is_first =
+      is_none (first_some (early_reasons (date_reason nodes) None nodes))
+      && (is_none (area_reason (area_in nodes)) && is_like)
+
+  -- a Price that goes before others, behind these: what countries it has that they have not
+  abbrev pub first_in : List First → First
+  first_in firsts = record {
+    alike = alike_in context nodes;
+    countries =
+        countries_without (all_excluded firsts (alike_in context nodes)
+        (countries_written (area_in nodes).excluded))
+        (countries_written (area_in nodes).included);
+  }
+
+  -- these Prices, and behind them it, where it goes before others
+  abbrev pub with_first : List First → List First
+  with_first firsts =
+      if is_of_countries (area_in nodes) && is_first then firsts ++ first_in firsts ∷ [] else firsts
+
+-- the Prices of a SupplyDetail that go before those of the world, where it has such
+abbrev pub firsts_in : PriceContext → List Composite → List First
+firsts_in context prices =
+    if list_any (λ p. not (is_of_countries (area_in p.below))) prices
+    then fold (λ firsts p. with_first context p.below firsts) [] prices else []
 
 -- ---- without where it lies in memory
 
@@ -285,4 +381,5 @@ context_view a = record {
   is_unpriced = a.is_unpriced;
   minimum = option_map (λ t. t.now) a.minimum;
   closed = a.closed.now;
+  firsts = a.firsts.now;
 }

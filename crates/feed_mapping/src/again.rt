@@ -1,7 +1,7 @@
 //! Elements that come again though they do not repeat.
 
 ghost use Rattle.std.specs.Prelude.{◌≡◌};
-ghost use Rattle.feed_mapping.specs.Again.{again_in, comes_again, is_again, is_composite, is_read_apart, is_repeatable};
+ghost use Rattle.feed_mapping.specs.Again.{again_in, comes_again, is_composite, is_read_apart, is_repeatable};
 ghost use Rattle.feed_mapping.specs.PriceViews.{text_view};
 
 use crate::elements::first_composite;
@@ -53,13 +53,6 @@ pub(crate) fn comes_again(name: &[u8], text: &[u8], rest: &Elements<'_>) -> bool
     }
 }
 
-// Whether an element of this name and text does not repeat, and comes again among these.
-fn is_again(name: &[u8], text: &[u8], rest: &Elements<'_>) -> bool
-    ensures { result ≡ is_again name.now text.now rest.now }
-{
-    !is_repeatable(name) && comes_again(name, text, rest)
-}
-
 /// The name of the first element that comes again though it does not repeat, at whatever depth;
 /// what stands in a PriceDate, or is read for the terms of the shop, is not looked at.
 pub(crate) fn again_in(elements: &Elements<'_>) -> Option<&'static [u8]>
@@ -67,12 +60,13 @@ pub(crate) fn again_in(elements: &Elements<'_>) -> Option<&'static [u8]>
 {
     let mut rest = elements.copy();
     while let Some(node) = rest.first() {
-        if is_again(node.line.name, node.line.text.as_slice(), &node.rest) {
-            return Some(node.line.name);
+        let name = node.line.name;
+        if !is_repeatable(name) && comes_again(name, node.line.text.as_slice(), &node.rest) {
+            return Some(name);
         }
-        if !is_read_apart(node.line.name) {
-            if let Some(name) = again_in(&node.below) {
-                return Some(name);
+        if !is_read_apart(name) {
+            if let Some(other) = again_in(&node.below) {
+                return Some(other);
             }
         }
         rest = node.rest;

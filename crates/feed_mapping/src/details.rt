@@ -18,22 +18,23 @@ ghost use Rattle.onix_records.specs.declared.row.Opening.{Opening as Said};
 ghost use Rattle.onix_records.specs.Detail.{detail_of};
 ghost use Rattle.onix_records.specs.Gives.{Gives};
 
+use crate::closing_prices::closing_kinds;
 use crate::elements::{elements_in, next_composite, text_or_empty};
 use crate::identifiers::{SUPPLIER, choose_identifier, is_there};
+use crate::narrower::First;
+use crate::narrower_prices::firsts_in;
 use crate::notes::{Note, Reason, Wrong};
 use crate::other_suppliers::next_detail;
 use crate::parties::{NO_PAIR, Pair};
-use crate::price_keys::Key;
 use crate::price_terms::{add_computed_prices, supplier_of};
-use crate::prices::{
-    PriceContext, add_price, because_old, closing_keys, fill_record, first_with_text,
-};
+use crate::prices::{PriceContext, add_price, because_old, fill_record, first_with_text};
 use crate::records::{first_of, is_field, may_be_empty, parsed_code, parsed_quantity, unless};
 use crate::supply_choices::SupplyChoices;
 use csv_records::buffer::RecordBuffer;
 use csv_records::fields::FieldBuffer;
 use csv_records::record::Record;
 use feed_outline::{Elements, text_in};
+use feed_terms::price::Kind;
 use onix_records::detail::read_detail;
 use onix_records::fields::read_fields;
 use onix_records::parts::SupplyDetail;
@@ -287,19 +288,22 @@ fn default_minimum<'a>(elements: &Elements<'a>) -> Option<&'a [u8]>
     }
 }
 
-// The context of the Prices of a SupplyDetail, by what closes them.
+// The context of the Prices of a SupplyDetail, by what closes them, and what goes before them.
 fn context_by<'a, 'b, 'c>(
     opening: &'a Opening,
-    closed: &'c [Key],
+    closed: &'c [Kind],
+    firsts: &'c [First],
     elements: &Elements<'b>,
 ) -> PriceContext<'a, 'b, 'c>
-    ensures { context_view result ≡ context_by opening.now closed.now elements.now }
+    ensures { context_view result
+        ≡ context_by opening.now closed.now firsts.now elements.now }
 {
     PriceContext {
         opening,
         is_unpriced: unpriced_in(elements).is_some(),
         minimum: default_minimum(elements),
         closed,
+        firsts,
     }
 }
 
@@ -394,8 +398,10 @@ pub(crate) fn add_detail<'a>(
     let supplier = supplier_id(choices.id_type, elements);
     let left_out = write_detail(alloc, supplier, elements, fields, records)?;
     if left_out.is_none() {
-        let closed = closing_keys(alloc, &context_by(opening, &[], elements), elements, fields)?;
-        let context = context_by(opening, closed.as_slice(), elements);
+        let first = context_by(opening, &[], &[], elements);
+        let closed = closing_kinds(alloc, &first, elements, fields)?;
+        let firsts = firsts_in(alloc, &first, elements)?;
+        let context = context_by(opening, closed.as_slice(), firsts.as_slice(), elements);
         add_priced(
             choices, supplier, &context, elements, fields, records, notes,
         )?;

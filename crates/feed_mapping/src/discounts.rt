@@ -2,7 +2,7 @@
 
 ghost use Rattle.std.specs.Prelude.{◌≡◌, ◌++◌, OnOk};
 ghost use Rattle.feed_mapping.specs.Notes.{note_views};
-ghost use Rattle.feed_mapping.specs.Prices.{counted_notes, discount_notes, rounded_notes, unread_notes};
+ghost use Rattle.feed_mapping.specs.Prices.{counted_notes, rounded_notes, unread_notes};
 
 use crate::elements::{first_composite, next_composite};
 use crate::notes::{Foreign, Note, Reason, push_note};
@@ -28,15 +28,6 @@ fn push_unread<'a>(
     Ok(())
 }
 
-// Adds a note on each Discount and each DiscountCoded of a Price.
-fn push_discounts<'a>(notes: &mut Vec<Note<'a>>, elements: &Elements<'a>) -> Result<(), AllocError>
-    ensures { OnOk result (note_views notes.new.items
-        ≡ note_views notes.old.items ++ discount_notes elements.now) }
-{
-    push_unread(notes, b"Discount", Foreign::Discount, elements)?;
-    push_unread(notes, b"DiscountCoded", Foreign::DiscountCoded, elements)
-}
-
 // Adds a note where the amount of a Price is rounded.
 fn push_rounded<'a>(notes: &mut Vec<Note<'a>>, elements: &Elements<'a>) -> Result<(), AllocError>
     ensures { OnOk result (note_views notes.new.items
@@ -59,6 +50,7 @@ pub(crate) fn push_counted<'a>(
     ensures { OnOk result (note_views notes.new.items
         ≡ note_views notes.old.items ++ counted_notes elements.now) }
 {
-    push_discounts(notes, elements)?;
+    push_unread(notes, b"Discount", Foreign::Discount, elements)?;
+    push_unread(notes, b"DiscountCoded", Foreign::DiscountCoded, elements)?;
     push_rounded(notes, elements)
 }

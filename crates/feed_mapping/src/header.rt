@@ -1,11 +1,11 @@
 //! The Header.
 
-ghost use Rattle.std.specs.Prelude.{◌≡◌, ◌+◌, ◌∷◌, ◌<◌, List, ℕ, Err, IsErrOf, OnOk, Some, true, false, codes, decimal, is_some, map, option_map};
+ghost use Rattle.std.specs.Prelude.{◌≡◌, ◌+◌, ◌∷◌, ◌<◌, List, ℕ, Err, IsErrOf, OnOk, Some, true, false, codes, decimal, map, option_map};
 ghost use Rattle.std.specs.Option.{ok_or, option_map_or};
 ghost use Rattle.std.specs.Str.{is_utf8};
 ghost use Rattle.std.specs.List.{list_all, list_any};
-ghost use Rattle.feed_mapping.specs.Elements.{composites, first};
-ghost use Rattle.feed_mapping.specs.Header.{added, are_identified, behind_zeros, picked, repeat_in, addressee_ids, addressee_pair, addressee_in, first_number, heading_in, if_whole, meant, message_fields, number_in, parsed_opening, sender_in, sender_of};
+ghost use Rattle.feed_mapping.specs.Elements.{composites};
+ghost use Rattle.feed_mapping.specs.Header.{added, are_identified, behind_zeros, picked, repeat_in, addressee_pair, addressee_in, first_number, heading_in, if_whole, meant, message_fields, number_in, parsed_opening, sender_in, sender_of};
 ghost use Rattle.feed_mapping.specs.HeaderViews.{choices_view, pair_read, IsHeading, IsOpening};
 ghost use Rattle.feed_mapping.specs.PartyViews.{pair_view};
 ghost use Rattle.feed_mapping.specs.Identifiers.{identifiers_in};
@@ -177,20 +177,13 @@ fn meant<'a>(pair: Pair<'_>, elements: &Elements<'a>) -> Result<Elements<'a>, He
     Err(HeaderRefusal::NoSuchAddressee)
 }
 
-// Whether an addressee with these elements has an identifier.
-fn is_identified(elements: &Elements<'_>) -> bool
-    ensures { result ≡ is_some (first (addressee_ids elements.now)) }
-{
-    next_identifier(ADDRESSEE, elements).is_some()
-}
-
 // Whether one of the addressees has an identifier.
 fn are_identified(elements: &Elements<'_>) -> bool
     ensures { result ≡ are_identified (composites (codes "Addressee") elements.now) }
 {
     let mut rest = elements.copy();
     while let Some((found, behind)) = next_composite(b"Addressee", &rest) {
-        if is_identified(&found.below) {
+        if next_identifier(ADDRESSEE, &found.below).is_some() {
             return true;
         }
         rest = behind;

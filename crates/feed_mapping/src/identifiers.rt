@@ -76,13 +76,6 @@ pub(crate) fn next_identifier<'a>(
     None
 }
 
-// Whether two identifiers have the same type and value.
-fn same_pair(pair: Pair<'_>, found: Pair<'_>) -> bool
-    ensures { result ≡ same_pair (pair_view pair.entry) (pair_view found.entry) }
-{
-    pair.id_type == found.id_type && pair.id_value == found.id_value
-}
-
 /// Whether one of the identifiers has that type and value.
 pub(crate) fn has_pair(kind: Kind, pair: Pair<'_>, elements: &Elements<'_>) -> bool
     ensures { result ≡ list_any (same_pair (pair_view pair.entry))
@@ -90,7 +83,7 @@ pub(crate) fn has_pair(kind: Kind, pair: Pair<'_>, elements: &Elements<'_>) -> b
 {
     let mut rest = elements.copy();
     while let Some((found, behind)) = next_identifier(kind, &rest) {
-        if same_pair(pair, found) {
+        if pair.id_type == found.id_type && pair.id_value == found.id_value {
             return true;
         }
         rest = behind;

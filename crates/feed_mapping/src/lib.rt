@@ -2,6 +2,7 @@
 #![tactic(auto)]
 
 mod again;
+mod closing_prices;
 pub mod dates;
 pub mod details;
 mod discounts;
@@ -11,11 +12,14 @@ mod identifiers;
 pub mod laws;
 mod malformed;
 pub mod markets;
+mod minimums;
+pub mod narrower;
+mod narrower_prices;
 pub mod notes;
 pub mod other_suppliers;
 pub mod parties;
 mod price_amounts;
-pub mod price_keys;
+mod price_kinds;
 mod price_terms;
 pub mod prices;
 pub mod product_records;
@@ -39,7 +43,7 @@ pub use notes::{Foreign, Note, Reason, ReasonKind, Wrong};
 pub use other_suppliers::{is_of_other, is_of_others, next_detail};
 pub use parties::Pair;
 pub use product_records::{Fate, add_bare, add_product, push_too_large};
-pub use supplier_counts::{has_named, has_other};
+pub use supplier_counts::has_detail;
 pub use supplies::first_reason;
 pub use supply_choices::SupplyChoices;
 pub use territories::{Area, area_in, unsupported};

@@ -33,6 +33,9 @@ pub enum Foreign {
     /// A Price of a type and a currency of which another Price beside it is left out for its
     /// PriceDates alone, and may stand in its place.
     BesideDates,
+    /// A Price of the world whose countries excluded, with those of the Prices beside it that go
+    /// before it, are longer than a field of the desk.
+    LongTerritory,
     /// A Price or Market that holds in a region, the text, without a country and without the
     /// world.
     RegionAlone,

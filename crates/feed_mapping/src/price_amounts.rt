@@ -1,13 +1,11 @@
 //! Amounts of Prices, as they are written.
 
-ghost use Rattle.std.specs.Prelude.{◌≡◌, ◌<◌, ◌^◌, IfOk, IfSome, Some, option_map};
+ghost use Rattle.std.specs.Prelude.{◌≡◌, ◌<◌, ◌^◌, IfOk, IfSome, option_map};
 ghost use Rattle.feed_mapping.specs.Amounts.{amount_said, cut_zeros, is_zero, long_part_of, point_in, rounded_amount, rounded_of, written_amount};
-ghost use Rattle.feed_mapping.specs.PriceViews.{text_view};
-ghost use Rattle.feed_mapping.specs.Records.{option_filter};
 ghost use Rattle.onix_terms.specs.Amount.{amount_text};
 
 use crate::elements::text_or_empty;
-use crate::records::{are_zeros, parsed_amount, utf8_text};
+use crate::records::{are_zeros, utf8_text};
 use feed_outline::Elements;
 use onix_terms::amount::Amount;
 use onix_terms::ascii::are_digits;
@@ -100,7 +98,7 @@ pub(crate) fn written_amount(said: &[u8]) -> Option<Amount>
 {
     match rounded_amount(said) {
         Some(amount) => Some(amount),
-        None => parsed_amount(said),
+        None => utf8_text(said)?.parse().ok(),
     }
 }
 
@@ -112,11 +110,4 @@ pub(crate) fn is_zero(said: &[u8]) -> bool
         None => false,
         Some(amount) => amount.thousandths() == 0,
     }
-}
-
-// An amount of 0.
-pub(crate) fn no_charge<'a>(said: &'a [u8]) -> Option<&'a [u8]>
-    ensures { text_view result ≡ option_filter is_zero (Some said.now) }
-{
-    if is_zero(said) { Some(said) } else { None }
 }

@@ -1,16 +1,14 @@
 //! What the terms of the shop see of the Prices of a SupplyDetail, and what comes of them by these.
 
-ghost use Rattle.std.specs.Prelude.{◌≡◌, ◌≤◌, ◌++◌, ◌∷◌, [], IfOk, OnOk, true, codes, length, map, replicate};
+ghost use Rattle.std.specs.Prelude.{◌≡◌, ◌≤◌, ◌++◌, ◌∷◌, [], IfOk, OnOk, true, codes, length, replicate};
 ghost use Rattle.std.specs.List.{flat_map};
-ghost use Rattle.std.specs.Str.{bytes_eq};
-ghost use Rattle.feed_outline.specs.Names.{stranger_apart};
 ghost use Rattle.std.specs.Option.{option_copied, option_to_list};
 ghost use Rattle.feed_mapping.specs.Elements.{composites, element_view};
 ghost use Rattle.feed_mapping.specs.Notes.{foreign, note, note_views};
 ghost use Rattle.feed_mapping.specs.Outcomes.{all_notes, outcome_notes, outcome_records};
 ghost use Rattle.feed_mapping.specs.PartyViews.{pair_view};
-ghost use Rattle.feed_mapping.specs.Prices.{PriceContext as Seen, context_view};
-ghost use Rattle.feed_mapping.specs.PriceTerms.{AreWritten, all_given, area_text, closed_by, code_in, discount_in, elements_in, given_in, given_of, is_garbled, is_mixed, is_of_terms, is_seen, kinds_closed, outcome_in, rate_in, records_with, all_remark_notes, remark_notes, supplier_of, tax_in, terms_notes};
+ghost use Rattle.feed_mapping.specs.Prices.{context_view};
+ghost use Rattle.feed_mapping.specs.PriceTerms.{AreWritten, area_text, closed_by, code_in, discount_in, elements_in, given_in, given_of, is_garbled, is_mixed, is_of_terms, kinds_closed, outcome_in, places_view, rate_in, records_with, all_remark_notes, remark_notes, supplier_of, tax_in, terms_notes};
 ghost use Rattle.feed_mapping.specs.declared.notes.Foreign.TheVariants as other;
 
 use crate::again::comes_again;
@@ -18,8 +16,9 @@ use crate::elements::{Composite, next_composite, text_or_empty};
 use crate::identifiers::is_there;
 use crate::notes::{Foreign, Note, Reason, push_note};
 use crate::parties::Pair;
+use crate::price_kinds::kind_in;
 use crate::prices::{PriceContext, add_price, is_for_others, price_in};
-use crate::records::{parsed_code, parsed_currency, utf8_text, value_or_default};
+use crate::records::{push_some, utf8_text};
 use csv_records::buffer::RecordBuffer;
 use csv_records::fields::FieldBuffer;
 use csv_records::record::Record;
@@ -43,12 +42,8 @@ pub(crate) fn is_of_terms(name: &[u8]) -> bool
         || name == b"Tax".as_slice()
 }
 
-// Whether an element is called as one that the terms read, and is none.
-fn is_stranger_apart(name: &[u8]) -> bool
-    ensures { result ≡ bytes_eq name.now stranger_apart }
-{
-    name == b";".as_slice()
-}
+// The name of an element that is called as one that the terms read, and is none.
+const STRANGER: &[u8] = b";";
 
 // Whether of what stands in such an element one is a stranger, or comes again.
 fn is_mixed(elements: &Elements<'_>) -> bool
@@ -58,7 +53,7 @@ fn is_mixed(elements: &Elements<'_>) -> bool
     while let Some(node) = rest.first() {
         let name = node.line.name;
         let text = node.line.text.as_slice();
-        if is_stranger_apart(name) || comes_again(name, text, &node.rest) {
+        if name == STRANGER || comes_again(name, text, &node.rest) {
             return true;
         }
         rest = node.rest;
@@ -73,7 +68,7 @@ fn is_garbled(elements: &Elements<'_>) -> bool
     let mut rest = elements.copy();
     while let Some(node) = rest.first() {
         let name = node.line.name;
-        if is_stranger_apart(name) || (is_of_terms(name) && is_mixed(&node.below)) {
+        if name == STRANGER || (is_of_terms(name) && is_mixed(&node.below)) {
             return true;
         }
         rest = node.rest;
@@ -97,23 +92,6 @@ fn code_in(alloc: Global, coded: &Composite<'_>) -> Result<Option<SaidCode>, All
     code_said(alloc, code_type, scheme, code)
 }
 
-// Adds the code that a DiscountCoded says.
-fn push_code(
-    alloc: Global,
-    coded: &Composite<'_>,
-    codes: &mut Items<SaidCode>,
-) -> Result<(), AllocError>
-    ensures { OnOk result (codes.new ≡ codes.old ++ option_to_list (code_in coded.now)) }
-{
-    match code_in(alloc, coded)? {
-        Some(code) => {
-            codes.push(code)?;
-            Ok(())
-        }
-        None => Ok(()),
-    }
-}
-
 // The codes that the DiscountCodeds of a Price say.
 fn codes_in(alloc: Global, elements: &Elements<'_>) -> Result<Items<SaidCode>, AllocError>
     ensures { IfOk result (λ all. all
@@ -123,7 +101,8 @@ fn codes_in(alloc: Global, elements: &Elements<'_>) -> Result<Items<SaidCode>, A
     let mut all = Items::new(alloc);
     let mut rest = elements.copy();
     while let Some((coded, behind)) = next_composite(b"DiscountCoded", &rest) {
-        push_code(alloc, &coded, &mut all)?;
+        let code = code_in(alloc, &coded)?;
+        push_some(&mut all, code)?;
         rest = behind;
     }
     Ok(all)
@@ -139,23 +118,6 @@ fn discount_in(discount: &Composite<'_>) -> Option<Discount>
     Discount::read(discount_type, quantity, percent)
 }
 
-// Adds the discount that a Discount says.
-fn push_discount(
-    discount: &Composite<'_>,
-    discounts: &mut Items<Discount>,
-) -> Result<(), AllocError>
-    ensures { OnOk result
-        (discounts.new ≡ discounts.old ++ option_to_list (discount_in discount.now)) }
-{
-    match discount_in(discount) {
-        Some(said) => {
-            discounts.push(said)?;
-            Ok(())
-        }
-        None => Ok(()),
-    }
-}
-
 // The discounts that the Discounts of a Price say.
 fn discounts_in(alloc: Global, elements: &Elements<'_>) -> Result<Items<Discount>, AllocError>
     ensures { IfOk result (λ all. all
@@ -165,7 +127,7 @@ fn discounts_in(alloc: Global, elements: &Elements<'_>) -> Result<Items<Discount
     let mut all = Items::new(alloc);
     let mut rest = elements.copy();
     while let Some((discount, behind)) = next_composite(b"Discount", &rest) {
-        push_discount(&discount, &mut all)?;
+        push_some(&mut all, discount_in(&discount))?;
         rest = behind;
     }
     Ok(all)
@@ -238,31 +200,30 @@ fn push_closed(
     if is_for_others(elements) {
         return Ok(());
     }
-    let price_type = text_or_empty(b"PriceType", elements);
-    let currency = text_or_empty(b"CurrencyCode", elements);
+    let Kind {
+        price_type,
+        currency,
+    } = kind_in(opening, elements);
     closed.push(Kind {
-        price_type: value_or_default(
-            opening.header.default_type,
-            price_type,
-            parsed_code(price_type),
-        ),
-        currency: value_or_default(
-            opening.header.default_currency,
-            currency,
-            parsed_currency(currency),
-        ),
+        price_type,
+        currency,
     })?;
     Ok(())
 }
 
-// Of the Prices of a SupplyDetail those that are written: the record of each and what the terms see
-// of it; of all Prices whether they are; and the type and currency of those that are not, unless
-// they are for others.
+// Where a Price stands.
+#[derive(Clone, Copy)]
+struct Place<'a> {
+    line: &'a Line,
+}
+
+// Of the Prices of a SupplyDetail those that are written: the record of each, what the terms see of
+// it, and its place; and the type and currency of those that are not, unless they are for others.
 #[derive(Drop)]
-struct WrittenPrices {
+struct WrittenPrices<'a> {
     records: RecordBuffer,
     given: Vec<GivenPrice>,
-    are_written: Vec<bool>,
+    places: Vec<Place<'a>>,
     closed: Vec<Kind>,
 }
 
@@ -272,15 +233,16 @@ fn add_written<'a>(
     context: &PriceContext<'_, '_, '_>,
     price: &Composite<'a>,
     fields: &mut FieldBuffer,
-    written: &mut WrittenPrices,
+    written: &mut WrittenPrices<'a>,
     notes: &mut Vec<Note<'a>>,
 ) -> Result<(), AllocError>
     ensures records { OnOk result (written.new.records ≡ written.old.records
         ++ outcome_records (outcome_in (context_view context.now) price.now)) }
     ensures given { OnOk result (written.new.given.items ≡ written.old.given.items
         ++ given_in (context_view context.now) price.now.below) }
-    ensures are_written { OnOk result (written.new.are_written.items
-        ≡ written.old.are_written.items ++ is_seen (context_view context.now) price.now ∷ []) }
+    ensures places { OnOk result (places_view written.new.places.items
+        ≡ places_view written.old.places.items
+        ++ elements_in (context_view context.now) price.now) }
     ensures closed { OnOk result (written.new.closed.items
         ≡ written.old.closed.items ++ closed_by (context_view context.now) price.now) }
     ensures notes { OnOk result (note_views notes.new.items ≡ note_views notes.old.items
@@ -289,7 +251,6 @@ fn add_written<'a>(
     let count = written.records.len();
     add_price(alloc, context, price, fields, &mut written.records, notes)?;
     if written.records.len() == count {
-        written.are_written.push(false)?;
         push_closed(context.opening, &price.below, &mut written.closed)?;
         return Ok(());
     }
@@ -299,7 +260,7 @@ fn add_written<'a>(
     };
     let given = given_of(alloc, said, &written.records.record(count), &price.below)?;
     written.given.push(given)?;
-    written.are_written.push(true)?;
+    written.places.push(Place { line: price.line })?;
     Ok(())
 }
 
@@ -310,10 +271,10 @@ fn written_in<'a>(
     elements: &Elements<'a>,
     fields: &mut FieldBuffer,
     notes: &mut Vec<Note<'a>>,
-) -> Result<WrittenPrices, AllocError>
+) -> Result<WrittenPrices<'a>, AllocError>
     ensures written { IfOk result (λ w. AreWritten (context_view context.now)
-        (composites (codes "Price") elements.now) w.records w.given.items w.are_written.items
-        w.closed.items) }
+        (composites (codes "Price") elements.now) w.records w.given.items
+        (places_view w.places.items) w.closed.items) }
     ensures notes { OnOk result (note_views notes.new.items ≡ note_views notes.old.items
         ++ all_notes (outcome_in (context_view context.now))
         (composites (codes "Price") elements.now)) }
@@ -321,7 +282,7 @@ fn written_in<'a>(
     let mut written = WrittenPrices {
         records: RecordBuffer::new(alloc),
         given: Vec::new(alloc),
-        are_written: Vec::new(alloc),
+        places: Vec::new(alloc),
         closed: Vec::new(alloc),
     };
     let mut rest = elements.copy();
@@ -394,37 +355,24 @@ fn push_remarks<'a>(
     push_held(remarks.held, line, notes)
 }
 
-// Adds the notes on those of the Prices that are written, of each of which that is said.
+// Adds the notes on Prices in these places, of each of which that is said.
 fn push_all_remarks<'a>(
-    elements: &Elements<'a>,
-    are_written: &[bool],
+    places: &[Place<'a>],
     remarks: &[Remarks],
     notes: &mut Vec<Note<'a>>,
 ) -> Result<(), AllocError>
-    ensures { (context : Seen)
-        → are_written.now ≡ map (is_seen context) (composites (codes "Price") elements.now)
-        → length remarks.now ≡ length (all_given context (composites (codes "Price") elements.now))
-        → OnOk result (note_views notes.new.items ≡ note_views notes.old.items
-        ++ all_remark_notes (flat_map (elements_in context)
-        (composites (codes "Price") elements.now)) remarks.now) }
+    ensures { OnOk result (note_views notes.new.items ≡ note_views notes.old.items
+        ++ all_remark_notes (places_view places.now) remarks.now) }
 {
-    let mut rest = elements.copy();
-    let mut written = are_written;
+    let mut rest = places;
     let mut left = remarks;
-    while let Some((price, behind)) = next_composite(b"Price", &rest) {
-        let [is_written, more @ ..] = written else {
+    while let [place, others @ ..] = rest {
+        let [said, more @ ..] = left else {
             return Ok(());
         };
-        written = more;
-        rest = behind;
-        if !*is_written {
-            continue;
-        }
-        let [first, others @ ..] = left else {
-            return Ok(());
-        };
-        push_remarks(price.line, *first, notes)?;
-        left = others;
+        push_remarks(place.line, *said, notes)?;
+        rest = others;
+        left = more;
     }
     Ok(())
 }
@@ -460,10 +408,5 @@ pub(crate) fn add_computed_prices<'a>(
         &written.records,
         records,
     )?;
-    push_all_remarks(
-        elements,
-        written.are_written.as_slice(),
-        remarks.as_slice(),
-        notes,
-    )
+    push_all_remarks(written.places.as_slice(), remarks.as_slice(), notes)
 }

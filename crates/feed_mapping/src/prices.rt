@@ -1,8 +1,8 @@
 //! Prices.
 
-ghost use Rattle.std.specs.Prelude.{◌≡◌, ◌++◌, ◌∷◌, ◌<◌, [], ℕ, List, None, Some, IfOk, IsErrOf, OnOk, false, true, ◌&&◌, if◌then◌else◌, find, is_none, is_some, map, not, codes, option_map};
+ghost use Rattle.std.specs.Prelude.{◌≡◌, ◌++◌, ◌∷◌, ◌<◌, [], ℕ, List, None, Some, IfOk, IsErrOf, OnOk, false, true, ◌&&◌, if◌then◌else◌, find, is_some, map, not, codes, option_map};
 ghost use Rattle.std.specs.List.{list_all};
-ghost use Rattle.std.specs.Option.{option_or, option_to_list};
+ghost use Rattle.std.specs.Option.{option_copied, option_to_list};
 ghost use Rattle.std.specs.Result.{result_err, result_unwrap_or};
 ghost use Rattle.std.specs.Str.{is_utf8};
 ghost use Rattle.feed_mapping.specs.DateViews.{dated_view};
@@ -11,25 +11,26 @@ ghost use Rattle.feed_mapping.specs.Elements.{composites, first, text_or_empty};
 ghost use Rattle.feed_mapping.specs.Notes.{foreign, is_wrong, note_views, wrong};
 ghost use Rattle.feed_mapping.specs.Outcomes.{notes_below, outcome_notes, outcome_records};
 ghost use Rattle.feed_mapping.specs.PriceViews.{reason_read, text_view};
-ghost use Rattle.feed_mapping.specs.Amounts.{amount_said, amount_written, rounded_amount};
-ghost use Rattle.onix_terms.specs.Amount.{amount_text};
-ghost use Rattle.feed_mapping.specs.Prices.{closed_reason, closing_key, closing_keys, context_view, first_with_text, greater_of, is_greater, is_other_qualifier, is_taken, key_in, last_reason, early_reasons, eight_fields, is_for_others, is_licensed, is_limited, is_nothing, is_other, late_reasons, old_element, outcome_of, own_minimum, price_fields, price_outcome, price_reasons, right_days};
+ghost use Rattle.feed_mapping.specs.Amounts.{amount_written, rounded_text};
+ghost use Rattle.feed_mapping.specs.Prices.{closed_reason, context_view, first_with_text, is_other_qualifier, is_taken, kind_in, last_reason, long_reason, narrowed, written_fields, early_reasons, eight_fields, fields_in, free_reason, is_for_others, is_limited, is_nothing, is_other, late_reasons, old_element, outcome_of, price_fields, price_outcome, price_reasons, right_days};
 ghost use Rattle.feed_mapping.specs.Records.{first_some, option_filter, parsed};
 ghost use Rattle.feed_mapping.specs.Territories.{AreRenamed, area_in, area_view};
 ghost use Rattle.feed_mapping.specs.declared.notes.Wrong.TheVariants.{OldElement};
 ghost use Rattle.onix_records.specs.Gives.{Gives};
 ghost use Rattle.onix_records.specs.Price.{day_field, price_of};
 ghost use Rattle.feed_outline.specs.Composites.{text_in};
-ghost use Rattle.feed_outline.specs.Nodes.{Nodes};
 
 use crate::dates::{Dated, Days, days_in};
 use crate::discounts::push_counted;
 use crate::elements::{Composite, first_composite, next_composite, text_or_empty};
+use crate::minimums::{greater_of, own_minimum};
+use crate::narrower::First;
+use crate::narrower_prices::narrowed_in;
 use crate::notes::{Foreign, Note, Reason, Wrong, push_reason};
-use crate::price_amounts::{amount_said, is_zero, no_charge, rounded_text};
-use crate::price_keys::{Key, has_key, key_in};
+use crate::price_amounts::{amount_said, is_zero, rounded_text};
+use crate::price_kinds::{has_kind, kind_in};
 use crate::reasons::{field_reason, or_price};
-use crate::records::{are_zeros, former, parsed_quantity, push_texts};
+use crate::records::{former, push_texts};
 use crate::territories::{
     Area, Renamed, area_fields, area_in, form_reason, push_territory_notes, renamed_in, unsupported,
 };
@@ -37,25 +38,26 @@ use csv_records::buffer::RecordBuffer;
 use csv_records::fields::FieldBuffer;
 use csv_records::record::Record;
 use feed_outline::{Elements, text_in};
+use feed_terms::price::Kind;
 use onix_records::fields::read_fields;
 use onix_records::parts::Price;
 use onix_records::price::read_price;
 use onix_records::row::{Opening, RowFault};
 use onix_terms::day::Day;
-use onix_terms::items::Items;
-use onix_terms::quantity::Quantity;
 use onix_terms::text::Text;
 use std::alloc::{AllocError, Global};
 
 /// The context of a Price: what its message begins with, whether the record of its SupplyDetail
-/// has an UnpricedItemType, the quantity that stands for a minimum that is not greater, and the
-/// types and currencies of which a Price beside it is left out for its PriceDates alone.
+/// has an UnpricedItemType, the quantity that stands for a minimum that is not greater, the types
+/// and currencies of which a Price beside it is left out for its PriceDates alone, and the Prices
+/// beside it that go before one of the world.
 #[derive(Clone, Copy)]
 pub struct PriceContext<'a, 'b, 'c> {
     pub opening: &'a Opening,
     pub is_unpriced: bool,
     pub minimum: Option<&'b [u8]>,
-    pub closed: &'c [Key],
+    pub closed: &'c [Kind],
+    pub firsts: &'c [First],
 }
 
 fn is_other(code: &[u8]) -> bool
@@ -115,12 +117,6 @@ fn mark_in(name: &[u8], elements: &Elements<'_>) -> Option<&'static [u8]>
     }
 }
 
-fn has_text(name: &[u8], elements: &Elements<'_>) -> bool
-    ensures { result ≡ is_some (text_in name.now elements.now) }
-{
-    text_in(name, elements).is_some()
-}
-
 /// The first of these names by which an element has a text.
 pub(crate) fn first_with_text(
     names: &[&'static [u8]],
@@ -130,7 +126,7 @@ pub(crate) fn first_with_text(
 {
     let mut rest = names;
     while let [name, tail @ ..] = rest {
-        if has_text(name, elements) {
+        if text_in(name, elements).is_some() {
             return Some(*name);
         }
         rest = tail;
@@ -178,7 +174,7 @@ pub(crate) fn because_old(text: Option<&'static [u8]>) -> Option<Reason<'static>
 }
 
 // The reason for which PriceDates leave their Price out.
-fn wrong_date<'a>(dated: &Dated<'a>) -> Option<Reason<'a>>
+pub(crate) fn wrong_date<'a>(dated: &Dated<'a>) -> Option<Reason<'a>>
     ensures { reason_read result ≡ result_err (dated_view dated.now) }
 {
     dated.wrong
@@ -212,7 +208,7 @@ fn if_wrong<'a>(reason: Option<Reason<'a>>) -> Option<Reason<'a>>
 }
 
 // The days, none where they are wrong.
-fn right_days(dated: &Dated<'_>) -> Days
+pub(crate) fn right_days(dated: &Dated<'_>) -> Days
     ensures { result ≡ result_unwrap_or (dated_view dated.now) (days None None) }
 {
     match dated.wrong {
@@ -228,29 +224,44 @@ fn right_days(dated: &Dated<'_>) -> Days
 fn late_reason<'a>(
     area: &Area<'a>,
     wrong_date: Option<Reason<'a>>,
+    free: Option<Reason<'a>>,
     elements: &Elements<'a>,
 ) -> Option<Reason<'a>>
     ensures { area_view area.now ≡ area_in elements.now → reason_read result
-        ≡ first_some (late_reasons (reason_read wrong_date.entry) elements.now) }
+        ≡ first_some (late_reasons (reason_read wrong_date.entry)
+        (reason_read free.entry) elements.now) }
 {
     let old = because_old(old_element(elements));
     let formed = former(form_reason(area), former(if_wrong(wrong_date), None));
     let dated = former(old, formed);
-    let free = because(Foreign::NoCharge, no_charge(amount_said(elements)));
     let charged = former(free, former(if_foreign(wrong_date), dated));
     former(unsupported(area), charged)
 }
 
+/// That the amount of a Price is 0.
+pub(crate) fn free_reason<'a>(elements: &Elements<'a>) -> Option<Reason<'a>>
+    ensures { reason_read result ≡ free_reason elements.now }
+{
+    let said = amount_said(elements);
+    if is_zero(said) {
+        Some(Reason::foreign(Foreign::NoCharge, said))
+    } else {
+        None
+    }
+}
+
 // Why a Price that holds there is another than the desk knows.
-fn early_reason<'a>(
+pub(crate) fn early_reason<'a>(
     area: &Area<'a>,
     wrong_date: Option<Reason<'a>>,
+    free: Option<Reason<'a>>,
     elements: &Elements<'a>,
 ) -> Option<Reason<'a>>
     ensures { area_view area.now ≡ area_in elements.now → reason_read result
-        ≡ first_some (early_reasons (reason_read wrong_date.entry) elements.now) }
+        ≡ first_some (early_reasons (reason_read wrong_date.entry)
+        (reason_read free.entry) elements.now) }
 {
-    let late = late_reason(area, wrong_date, elements);
+    let late = late_reason(area, wrong_date, free, elements);
     let mark = mark_in(b"EpubLicenseWithDate", elements);
     let dated_license = because(Foreign::EpubLicenseWithDate, mark);
     let license = because(Foreign::EpubLicense, mark_in(b"EpubLicense", elements));
@@ -282,24 +293,19 @@ fn is_limited(elements: &Elements<'_>) -> bool
         || other_type(b"PriceConstraint", b"PriceConstraintType", elements).is_some()
 }
 
-// Whether a Price is for those who have a licence.
-fn is_licensed(elements: &Elements<'_>) -> bool
-    ensures { result ≡ is_licensed elements.now }
-{
-    mark_in(b"EpubLicense", elements).is_some()
-        || mark_in(b"EpubLicenseWithDate", elements).is_some()
-}
-
 /// Whether a Price is for others than the shop, for another unit than a copy, or of 0.
 pub(crate) fn is_for_others(elements: &Elements<'_>) -> bool
     ensures { result ≡ is_for_others elements.now }
 {
-    is_limited(elements) || is_licensed(elements) || is_zero(amount_said(elements))
+    is_limited(elements)
+        || mark_in(b"EpubLicense", elements).is_some()
+        || mark_in(b"EpubLicenseWithDate", elements).is_some()
+        || is_zero(amount_said(elements))
 }
 
-// Whether a Price is nothing: it has no amount and no PriceCoded, and the record of its
-// SupplyDetail an UnpricedItemType.
-fn is_nothing(context: &PriceContext<'_, '_, '_>, elements: &Elements<'_>) -> bool
+/// Whether a Price is nothing: it has no amount and no PriceCoded, and the record of its
+/// SupplyDetail an UnpricedItemType.
+pub(crate) fn is_nothing(context: &PriceContext<'_, '_, '_>, elements: &Elements<'_>) -> bool
     ensures { result ≡ is_nothing (context_view context.now) elements.now }
 {
     context.is_unpriced
@@ -333,8 +339,7 @@ fn owned_texts(
     area: &Area<'_>,
     days: Days,
 ) -> Result<Owned, AllocError>
-    ensures amount { IfOk result
-        (λ o. o.amount ≡ option_map amount_text (rounded_amount (amount_said elements.now))) }
+    ensures amount { IfOk result (λ o. o.amount ≡ rounded_text elements.now) }
     ensures renamed { IfOk result (λ o. AreRenamed o.renamed (area_view area.now)) }
     ensures first { IfOk result (λ o. o.first ≡ day_field days.first) }
     ensures last { IfOk result (λ o. o.last ≡ day_field days.last) }
@@ -349,7 +354,7 @@ fn owned_texts(
 
 // An amount as it is written.
 fn amount_written<'b>(owned: &'b Owned, elements: &Elements<'b>) -> &'b [u8]
-    ensures { owned.now.amount ≡ option_map amount_text (rounded_amount (amount_said elements.now))
+    ensures { owned.now.amount ≡ rounded_text elements.now
         → result.now ≡ amount_written elements.now }
 {
     match &owned.amount {
@@ -358,14 +363,19 @@ fn amount_written<'b>(owned: &'b Owned, elements: &Elements<'b>) -> &'b [u8]
     }
 }
 
-// The texts of the fields that each Price has.
-fn eight_texts<'b>(owned: &'b Owned, area: &'b Area<'_>, elements: &Elements<'b>) -> [&'b [u8]; 8]
-    ensures { (days : Days) → AreRenamed owned.now.renamed (area_view area.now)
-        → owned.now.amount ≡ option_map amount_text (rounded_amount (amount_said elements.now))
+// The texts of the fields that each Price has, in a territory of these fields.
+fn eight_texts<'b>(
+    owned: &'b Owned,
+    territory: [&'b [u8]; 3],
+    elements: &Elements<'b>,
+) -> [&'b [u8]; 8]
+    ensures { (days : Days)
+        → owned.now.amount ≡ rounded_text elements.now
         → owned.now.first ≡ day_field days.first → owned.now.last ≡ day_field days.last
-        → map (λ t. t.now) result ≡ eight_fields (area_view area.now) days elements.now }
+        → map (λ t. t.now) result
+        ≡ eight_fields (map (λ t. t.now) territory.entry) days elements.now }
 {
-    let [included, world, excluded] = area_fields(area, &owned.renamed);
+    let [included, world, excluded] = territory;
     [
         text_or_empty(b"PriceType", elements),
         amount_written(owned, elements),
@@ -376,44 +386,6 @@ fn eight_texts<'b>(owned: &'b Owned, area: &'b Area<'_>, elements: &Elements<'b>
         owned.first.as_str().as_bytes(),
         owned.last.as_str().as_bytes(),
     ]
-}
-
-// The MinimumOrderQuantity of a Price, where it is not of zeros alone.
-pub(crate) fn own_minimum<'a>(elements: &Elements<'a>) -> Option<&'a [u8]>
-    ensures { text_view result ≡ own_minimum elements.now }
-{
-    let text = text_in(b"MinimumOrderQuantity", elements)?;
-    if are_zeros(text) { None } else { Some(text) }
-}
-
-// Whether a quantity is greater than another, where both are quantities.
-fn is_greater(one: Option<Quantity>, other: Option<Quantity>) -> bool
-    ensures { result ≡ is_greater one other }
-{
-    match one {
-        Some(one) => match other {
-            Some(other) => one.value() > other.value(),
-            None => false,
-        },
-        None => false,
-    }
-}
-
-// A minimum, or the other one where that is greater or there is none.
-fn greater_of<'b>(own: Option<&'b [u8]>, other: Option<&'b [u8]>) -> Option<&'b [u8]>
-    ensures { text_view result ≡ greater_of (text_view own.entry) (text_view other.entry) }
-{
-    let Some(own) = own else {
-        return other;
-    };
-    let Some(other) = other else {
-        return Some(own);
-    };
-    if is_greater(parsed_quantity(other), parsed_quantity(own)) {
-        Some(other)
-    } else {
-        Some(own)
-    }
 }
 
 /// Puts a record of this name in place of what the list had. `Wrong` exactly where a text is no
@@ -504,35 +476,33 @@ fn take_price(
     }
 }
 
-// Puts the record of a Price in this territory, with these texts, in place of what the list had,
-// and says whether the desk takes it.
-fn take_texts(
+// Puts the record of a Price in a territory of these fields, with these texts, in place of what the
+// list had, and says whether the desk takes it.
+fn take_texts<'b>(
     alloc: Global,
     context: &PriceContext<'_, '_, '_>,
-    owned: &Owned,
-    area: &Area<'_>,
-    elements: &Elements<'_>,
+    owned: &'b Owned,
+    territory: [&'b [u8]; 3],
+    elements: &Elements<'b>,
     fields: &mut FieldBuffer,
 ) -> Result<bool, AllocError>
-    ensures record { area_view area.now ≡ area_in elements.now
-        → owned.now.amount ≡ option_map amount_text (rounded_amount (amount_said elements.now))
-        → AreRenamed owned.now.renamed (area_view area.now)
+    ensures record { owned.now.amount ≡ rounded_text elements.now
         → owned.now.first ≡ day_field (right_days elements.now).first
         → owned.now.last ≡ day_field (right_days elements.now).last → IfOk result (λ is. is ≡ true
-        → fields.new ≡ codes "Price" ∷ price_fields (context_view context.now) elements.now) }
-    ensures taken { area_view area.now ≡ area_in elements.now
-        → owned.now.amount ≡ option_map amount_text (rounded_amount (amount_said elements.now))
-        → AreRenamed owned.now.renamed (area_view area.now)
+        → fields.new ≡ codes "Price" ∷ fields_in (context_view context.now) elements.now
+        (map (λ t. t.now) territory.entry)) }
+    ensures taken { owned.now.amount ≡ rounded_text elements.now
         → owned.now.first ≡ day_field (right_days elements.now).first
         → owned.now.last ≡ day_field (right_days elements.now).last → IfOk result (λ is. is
-        ≡ is_taken (context_view context.now) elements.now) }
+        ≡ is_some (parsed (price_of context.now.opening.now) (fields_in (context_view context.now)
+        elements.now (map (λ t. t.now) territory.entry)))) }
 {
     let minimum = greater_of(own_minimum(elements), context.minimum);
     take_price(
         alloc,
         context.opening,
         fields,
-        &eight_texts(owned, area, elements),
+        &eight_texts(owned, territory, elements),
         minimum,
     )
 }
@@ -544,11 +514,90 @@ fn closed_reason(
 ) -> Option<Reason<'static>>
     ensures { reason_read result ≡ closed_reason (context_view context.now) elements.now }
 {
-    let key = key_in(context.opening, elements);
-    if !has_key(&key, context.closed) {
+    let kind = kind_in(context.opening, elements);
+    if !has_kind(&kind, context.closed) {
         return None;
     }
     Some(Reason::foreign(Foreign::BesideDates, b""))
+}
+
+// The fields of the territory that is the world without these countries.
+fn world_without<'b>(excluded: &'b Text) -> [&'b [u8]; 3]
+    ensures { map (λ t. t.now) result ≡ [] ∷ codes "WORLD" ∷ excluded.now ∷ [] }
+{
+    let none: &'b [u8] = b"";
+    let world: &'b [u8] = b"WORLD";
+    let excluded: &'b [u8] = excluded.as_str().as_bytes();
+    [none, world, excluded]
+}
+
+// Puts the record of a Price that is written as it stands, which the list has, as of the world
+// without these countries, where there are such. It says whether the desk takes it so.
+fn take_narrowed<'b>(
+    alloc: Global,
+    context: &PriceContext<'_, '_, '_>,
+    owned: &'b Owned,
+    excluded: Option<&'b Text>,
+    elements: &Elements<'b>,
+    fields: &mut FieldBuffer,
+) -> Result<bool, AllocError>
+    ensures record { option_copied excluded.entry ≡ narrowed (context_view context.now) elements.now
+        → owned.now.amount ≡ rounded_text elements.now
+        → owned.now.first ≡ day_field (right_days elements.now).first
+        → owned.now.last ≡ day_field (right_days elements.now).last
+        → fields.old ≡ codes "Price" ∷ price_fields (context_view context.now) elements.now
+        → IfOk result (λ is. is ≡ true
+        → fields.new ≡ codes "Price" ∷ written_fields (context_view context.now) elements.now) }
+    ensures taken { option_copied excluded.entry ≡ narrowed (context_view context.now) elements.now
+        → owned.now.amount ≡ rounded_text elements.now
+        → owned.now.first ≡ day_field (right_days elements.now).first
+        → owned.now.last ≡ day_field (right_days elements.now).last
+        → is_taken (context_view context.now) elements.now ≡ true
+        → IfOk result (λ is. is ≡ is_some (parsed (price_of context.now.opening.now)
+        (written_fields (context_view context.now) elements.now))) }
+{
+    match excluded {
+        None => Ok(true),
+        Some(excluded) => {
+            let territory = world_without(excluded);
+            take_texts(alloc, context, owned, territory, elements, fields)
+        }
+    }
+}
+
+// Adds the record of a Price that the desk takes as it stands, which the list has, or gives the
+// reason for which it is left out.
+fn push_price<'b>(
+    alloc: Global,
+    context: &PriceContext<'_, '_, '_>,
+    owned: &'b Owned,
+    excluded: Option<&'b Text>,
+    elements: &Elements<'b>,
+    fields: &mut FieldBuffer,
+    records: &mut RecordBuffer,
+) -> Result<Option<Reason<'static>>, AllocError>
+    ensures reason { option_copied excluded.entry ≡ narrowed (context_view context.now) elements.now
+        → owned.now.amount ≡ rounded_text elements.now
+        → owned.now.first ≡ day_field (right_days elements.now).first
+        → owned.now.last ≡ day_field (right_days elements.now).last
+        → is_taken (context_view context.now) elements.now ≡ true
+        → IfOk result (λ reason. reason_read reason
+        ≡ long_reason (context_view context.now) elements.now) }
+    ensures record { option_copied excluded.entry ≡ narrowed (context_view context.now) elements.now
+        → owned.now.amount ≡ rounded_text elements.now
+        → owned.now.first ≡ day_field (right_days elements.now).first
+        → owned.now.last ≡ day_field (right_days elements.now).last
+        → fields.old ≡ codes "Price" ∷ price_fields (context_view context.now) elements.now
+        → is_taken (context_view context.now) elements.now ≡ true
+        → OnOk result (records.new ≡ records.old ++ outcome_records
+        (outcome_of (long_reason (context_view context.now) elements.now)
+        (context_view context.now) elements.now)) }
+{
+    if take_narrowed(alloc, context, owned, excluded, elements, fields)? {
+        records.push(&fields.as_record())?;
+        return Ok(None);
+    }
+    Ok(Some(Reason::foreign(Foreign::LongTerritory, b"")))
 }
 
 // Adds the record of a Price with these days in this territory, or gives the reason for which it is
@@ -571,18 +620,24 @@ fn write_price<'a>(
         (context_view context.now) elements.now)) }
 {
     let owned = owned_texts(alloc, elements, area, days)?;
-    let is_taken = take_texts(alloc, context, &owned, area, elements, fields)?;
-    if is_taken {
-        return match closed_reason(context, elements) {
-            Some(reason) => Ok(Some(reason)),
-            None => {
-                records.push(&fields.as_record())?;
-                Ok(None)
-            }
-        };
+    let territory = area_fields(area, &owned.renamed);
+    if !take_texts(alloc, context, &owned, territory, elements, fields)? {
+        let field = field_reason(alloc, context.opening, area, &owned.renamed, elements)?;
+        return Ok(Some(or_price(field)));
     }
-    let field = field_reason(alloc, context.opening, area, &owned.renamed, elements)?;
-    Ok(Some(or_price(field)))
+    if let Some(reason) = closed_reason(context, elements) {
+        return Ok(Some(reason));
+    }
+    let excluded = narrowed_in(alloc, context, &owned.renamed, area, days, elements)?;
+    push_price(
+        alloc,
+        context,
+        &owned,
+        excluded.as_ref(),
+        elements,
+        fields,
+        records,
+    )
 }
 
 // Adds what comes of a Price that is none other than the desk knows, or gives the reason for which
@@ -638,7 +693,7 @@ fn add_priced<'a>(
 {
     let area = area_in(elements);
     let dated = days_in(elements);
-    match early_reason(&area, wrong_date(&dated), elements) {
+    match early_reason(&area, wrong_date(&dated), free_reason(elements), elements) {
         None => add_known(
             context,
             elements,
@@ -652,12 +707,12 @@ fn add_priced<'a>(
     }
 }
 
-// Whether the desk takes the record of a Price with these days in this territory.
-fn is_taken_then(
+/// Whether the desk takes the record of a Price with these days in this territory.
+pub(crate) fn is_taken_then<'a>(
     alloc: Global,
     context: &PriceContext<'_, '_, '_>,
-    elements: &Elements<'_>,
-    area: &Area<'_>,
+    elements: &Elements<'a>,
+    area: &Area<'a>,
     days: Days,
     fields: &mut FieldBuffer,
 ) -> Result<bool, AllocError>
@@ -665,89 +720,8 @@ fn is_taken_then(
         → IfOk result (λ is. is ≡ is_taken (context_view context.now) elements.now) }
 {
     let owned = owned_texts(alloc, elements, area, days)?;
-    take_texts(alloc, context, &owned, area, elements, fields)
-}
-
-// The type and currency of a Price that would be written but for its PriceDates, which are wrong.
-fn undated_key(
-    alloc: Global,
-    context: &PriceContext<'_, '_, '_>,
-    dated: &Dated<'_>,
-    elements: &Elements<'_>,
-    fields: &mut FieldBuffer,
-) -> Result<Option<Key>, AllocError>
-    ensures { dated_view dated.now ≡ days_in elements.now → IfOk result (λ key. key
-        ≡ (if is_none (first_some (early_reasons None elements.now))
-        && is_taken (context_view context.now) elements.now
-        then Some (key_in context.now.opening.now elements.now) else None)) }
-{
-    let area = area_in(elements);
-    if early_reason(&area, None, elements).is_some() {
-        return Ok(None);
-    }
-    let is_taken = is_taken_then(alloc, context, elements, &area, right_days(dated), fields)?;
-    if is_taken {
-        Ok(Some(key_in(context.opening, elements)))
-    } else {
-        Ok(None)
-    }
-}
-
-// The type and currency of a Price that would be written but for its PriceDates.
-fn closing_key(
-    alloc: Global,
-    context: &PriceContext<'_, '_, '_>,
-    elements: &Elements<'_>,
-    fields: &mut FieldBuffer,
-) -> Result<Option<Key>, AllocError>
-    ensures { IfOk result
-        (λ key. key ≡ closing_key (context_view context.now) elements.now) }
-{
-    let dated = days_in(elements);
-    if is_nothing(context, elements) || dated.wrong.is_none() {
-        return Ok(None);
-    }
-    undated_key(alloc, context, &dated, elements, fields)
-}
-
-// Adds the type and currency of a Price that would be written but for its PriceDates.
-fn add_closing_key(
-    alloc: Global,
-    context: &PriceContext<'_, '_, '_>,
-    elements: &Elements<'_>,
-    fields: &mut FieldBuffer,
-    keys: &mut Items<Key>,
-) -> Result<(), AllocError>
-    ensures { OnOk result (keys.new ≡ keys.old
-        ++ option_to_list (closing_key (context_view context.now) elements.now)) }
-{
-    match closing_key(alloc, context, elements, fields)? {
-        Some(key) => {
-            keys.push(key)?;
-            Ok(())
-        }
-        None => Ok(()),
-    }
-}
-
-/// The types and currencies of those Prices of a SupplyDetail that would be written but for their
-/// PriceDates. The list takes fields.
-pub(crate) fn closing_keys(
-    alloc: Global,
-    context: &PriceContext<'_, '_, '_>,
-    elements: &Elements<'_>,
-    fields: &mut FieldBuffer,
-) -> Result<Items<Key>, AllocError>
-    ensures { IfOk result (λ keys. keys
-        ≡ closing_keys (context_view context.now) (composites (codes "Price") elements.now)) }
-{
-    let mut keys = Items::new(alloc);
-    let mut rest = elements.copy();
-    while let Some((price, behind)) = next_composite(b"Price", &rest) {
-        add_closing_key(alloc, context, &price.below, fields, &mut keys)?;
-        rest = behind;
-    }
-    Ok(keys)
+    let territory = area_fields(area, &owned.renamed);
+    take_texts(alloc, context, &owned, territory, elements, fields)
 }
 
 /// Adds what comes of a Price: its record, where it has one, and notes on what is left out. The

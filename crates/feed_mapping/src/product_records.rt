@@ -1,7 +1,6 @@
 //! The records of a Product and of its supplies.
 
 ghost use Rattle.std.specs.Prelude.{◌≡◌, ◌++◌, ◌∷◌, ◌<◌, [], None, IfOk, OnOk, option_map};
-ghost use Rattle.feed_mapping.specs.Elements.{element_view};
 ghost use Rattle.feed_mapping.specs.Notes.{note, note_views};
 ghost use Rattle.feed_mapping.specs.Outcomes.{all_notes, all_records};
 ghost use Rattle.feed_mapping.specs.PartyViews.{pair_view};
@@ -9,7 +8,7 @@ ghost use Rattle.feed_mapping.specs.PriceViews.{reason_read};
 ghost use Rattle.feed_mapping.specs.ProductRecords.{fate_of, ignored_reason, is_alone, is_followed, isbn_reason, notes_behind, notification_written, others_reason, product_notes, product_records, fate_by, records_by, supplies_in, too_large_notes, why_emptied, written_notes};
 ghost use Rattle.feed_mapping.specs.Supplies.{supplies_reason, supply_in};
 ghost use Rattle.std.specs.Option.{option_map_or};
-ghost use Rattle.feed_mapping.specs.Products.{bare_record, emptied_record, has_isbn, dropping, notification_in, own_reason, product_record, right_pairs};
+ghost use Rattle.feed_mapping.specs.Products.{bare_record, has_isbn, dropping, notification_in, own_reason, product_record, right_pairs};
 ghost use Rattle.feed_mapping.specs.SupplyChoices.{supply_choices_view};
 
 use crate::elements::Composite;
@@ -109,18 +108,17 @@ fn push_written_notes<'a>(
     push_reason(notes, product.line, others_reason(supplier, &product.below))
 }
 
-// Adds the record of a Product that is emptied, with these types and values.
-fn add_emptied(
+// Adds the record of a Product, with this NotificationType and these types and values.
+fn add_record(
+    notification: &[u8],
     pairs: &FieldBuffer,
     elements: &Elements<'_>,
     fields: &mut FieldBuffer,
     records: &mut RecordBuffer,
 ) -> Result<(), AllocError>
-    ensures { OnOk result
-        (records.new ≡ records.old
-        ++ product_record (dropping (notification_in elements.now)) pairs.now elements.now ∷ []) }
+    ensures { OnOk result (records.new
+        ≡ records.old ++ product_record notification.now pairs.now elements.now ∷ []) }
 {
-    let notification = dropping(notification_in(elements));
     fill_product(notification, pairs, elements, fields)?;
     records.push(&fields.as_record())
 }
@@ -137,23 +135,6 @@ fn notification_written<'a>(supplier: Option<Pair<'_>>, elements: &Elements<'a>)
     } else {
         notification
     }
-}
-
-// Adds the record of a Product that stands, with these types and values.
-fn add_own(
-    supplier: Option<Pair<'_>>,
-    pairs: &FieldBuffer,
-    elements: &Elements<'_>,
-    fields: &mut FieldBuffer,
-    records: &mut RecordBuffer,
-) -> Result<(), AllocError>
-    ensures { OnOk result (records.new ≡ records.old
-        ++ product_record (notification_written (option_map pair_view supplier.entry) elements.now)
-        pairs.now elements.now ∷ []) }
-{
-    let notification = notification_written(supplier, elements);
-    fill_product(notification, pairs, elements, fields)?;
-    records.push(&fields.as_record())
 }
 
 // Adds the records below a Product, and notes on what is left out of them, or gives the reason for
@@ -209,8 +190,8 @@ fn add_sound<'a>(
     let alloc = *notes.allocator();
     let count = records.len();
     let elements = &product.below;
-    add_own(
-        choices.supplier,
+    add_record(
+        notification_written(choices.supplier, elements),
         &identifiers.pairs,
         elements,
         fields,
@@ -223,7 +204,8 @@ fn add_sound<'a>(
         }
         Some(reason) => {
             records.truncate(count);
-            add_emptied(&identifiers.pairs, elements, fields, records)?;
+            let notification = dropping(notification_in(elements));
+            add_record(notification, &identifiers.pairs, elements, fields, records)?;
             push_note(notes, product.line, reason)?;
             Ok(Fate::Emptied)
         }
@@ -256,7 +238,14 @@ fn add_standing<'a>(
 {
     match own_reason(choices.supplier, &identifiers.pairs, &product.below) {
         Some(reason) => {
-            add_emptied(&identifiers.pairs, &product.below, fields, records)?;
+            let notification = dropping(notification_in(&product.below));
+            add_record(
+                notification,
+                &identifiers.pairs,
+                &product.below,
+                fields,
+                records,
+            )?;
             push_note(notes, product.line, reason)?;
             Ok(Fate::Emptied)
         }
@@ -336,5 +325,6 @@ pub fn add_bare(
     ensures { OnOk result (records.new ≡ records.old ++ bare_record product.now.below ∷ []) }
 {
     let none = FieldBuffer::new(alloc);
-    add_emptied(&none, &product.below, fields, records)
+    let notification = dropping(notification_in(&product.below));
+    add_record(notification, &none, &product.below, fields, records)
 }

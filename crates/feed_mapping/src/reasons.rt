@@ -9,9 +9,9 @@ ghost use Rattle.feed_mapping.specs.Territories.{AreRenamed, area_in, area_view}
 ghost use Rattle.feed_mapping.specs.declared.notes.Wrong.TheVariants as bad;
 
 use crate::elements::text_or_empty;
+use crate::minimums::own_minimum;
 use crate::notes::{Reason, Wrong};
 use crate::price_amounts::{amount_said, written_amount};
-use crate::prices::own_minimum;
 use crate::records::{
     first_of, may_be_empty, parsed_code, parsed_currency, parsed_quantity, unless, value_or_default,
 };

@@ -1,14 +1,12 @@
 //! Texts of elements as the fields of a record.
 
-ghost use Rattle.std.specs.Prelude.{◌≡◌, ◌==◌, ◌++◌, IfNone, IfSome, IsErrOf, OnOk, is_some, map, option_map, true, false};
+ghost use Rattle.std.specs.Prelude.{◌≡◌, ◌==◌, ◌++◌, IfNone, IfSome, IsErrOf, OnOk, is_some, map, true, false};
 ghost use Rattle.std.specs.List.{list_all};
-ghost use Rattle.std.specs.Option.{option_or};
+ghost use Rattle.std.specs.Option.{option_or, option_to_list};
 ghost use Rattle.std.specs.Str.{is_utf8};
 ghost use Rattle.onix_records.specs.Fields.{value_or_default, unless_empty};
-ghost use Rattle.feed_mapping.specs.Notes.{reason_view};
 ghost use Rattle.feed_mapping.specs.PriceViews.{reason_read};
 ghost use Rattle.feed_mapping.specs.Records.{first_some, is_field, parsed_term, unless};
-ghost use Rattle.onix_terms.specs.Amount.{amount_of};
 ghost use Rattle.onix_terms.specs.Code.{code2_of, currency_of};
 ghost use Rattle.onix_terms.specs.Quantity.{quantity_of};
 
@@ -16,9 +14,20 @@ use crate::notes::{Reason, Wrong};
 use csv_records::fields::FieldBuffer;
 use onix_records::fields::is_clean;
 use onix_records::row::RowFault;
-use onix_terms::amount::Amount;
 use onix_terms::code::{Code2, Currency};
+use onix_terms::items::Items;
 use onix_terms::quantity::Quantity;
+use std::alloc::AllocError;
+
+/// Adds an item, where there is one.
+pub(crate) fn push_some<T: Drop>(items: &mut Items<T>, item: Option<T>) -> Result<(), AllocError>
+    ensures { OnOk result (items.new ≡ items.old ++ option_to_list item) }
+{
+    match item {
+        Some(item) => items.push(item),
+        None => Ok(()),
+    }
+}
 
 /// The text of bytes, where they are UTF-8.
 pub fn utf8_text(bytes: &[u8]) -> Option<&str>
@@ -34,12 +43,6 @@ pub fn utf8_text(bytes: &[u8]) -> Option<&str>
 
 pub(crate) fn parsed_code(text: &[u8]) -> Option<Code2>
     ensures { result ≡ parsed_term code2_of text.now }
-{
-    utf8_text(text)?.parse().ok()
-}
-
-pub(crate) fn parsed_amount(text: &[u8]) -> Option<Amount>
-    ensures { result ≡ parsed_term amount_of text.now }
 {
     utf8_text(text)?.parse().ok()
 }

@@ -1,4 +1,3 @@
-pub mod Keys
 pub mod AnyOf
 pub mod ComputedAmounts
 pub mod Stands
@@ -6,10 +5,8 @@ pub mod Without
 pub mod TermTables
 pub mod Digits
 pub mod LeastPrices
-pub mod Starts
 pub mod WithRecords
 pub mod FirstFitting
 pub mod CodeLists
 pub mod ReadBack
 pub mod Writable
-pub mod TermKinds

@@ -1,11 +1,7 @@
 -- Which term fits a price.
-use Rattle.std.specs.Prelude.{◌≡◌, ℕ, List, [], ◌∷◌, ◌++◌, Bool, true, false, ◌&&◌, Option, Some, None, not}
-use Rattle.std.specs.Prelude.{find, is_some, ◌||◌}
-use Rattle.std.specs.BTreeMap.{BTreeMap, get}
-use Rattle.std.specs.Cmp.Lexicographic.{slice_cmp}
-use Rattle.std.specs.Option.{option_cmp, option_map_or}
-use Rattle.std.specs.Ordering.{nat_cmp, ordering_then}
-use Rattle.std.specs.declared.cmp.Ordering.{Ordering}
+use Rattle.std.specs.Prelude.{ℕ, List, [], ◌∷◌, ◌++◌, Bool, true, false, ◌&&◌, Option, Some, None, not}
+use Rattle.std.specs.Prelude.{find, is_some}
+use Rattle.std.specs.Option.{option_map_or}
 use Rattle.std.specs.List.{list_any}
 use Rattle.std.specs.Str.{bytes_eq}
 use Rattle.onix_terms.specs.declared.party.Party.{Party}
@@ -84,19 +80,3 @@ is_for price_type currency term =
 -- whether a table has a term for the type and currency of a price
 abbrev pub is_of_table : List Term → GivenPrice → Bool
 is_of_table terms given = list_any (is_for given.price.price_type given.price.currency) terms
-
--- the order of a type and a currency, which may be absent
-abbrev pub typed_cmp : List ℕ × Option (List ℕ) → List ℕ × Option (List ℕ) → Ordering
-typed_cmp a b = ordering_then (slice_cmp nat_cmp a.0 b.0) (option_cmp (slice_cmp nat_cmp) a.1 b.1)
-
--- whether a map has a type, with this currency or with each
-abbrev pub has_kind : BTreeMap (List ℕ × Option (List ℕ)) Bool → List ℕ → List ℕ → Bool
-has_kind kinds price_type currency =
-    is_some (get typed_cmp kinds (price_type, Some currency))
-    || is_some (get typed_cmp kinds (price_type, None))
-
--- these are the types of the terms of a table, each with its currency
-abbrev pub AreKinds : List Term → BTreeMap (List ℕ × Option (List ℕ)) Bool → Type 0
-AreKinds terms kinds =
-    (price_type currency : List ℕ)
-    → has_kind kinds price_type currency ≡ list_any (is_for price_type currency) terms

@@ -9,7 +9,5 @@ pub mod Precedes
 pub mod Amounts
 pub mod Computed
 pub mod HeldBack
-pub mod GivenStarts
-pub mod Barred
 pub mod WithTerms
 pub mod Laws

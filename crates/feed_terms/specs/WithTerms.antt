@@ -6,11 +6,9 @@ use Rattle.std.specs.List.{flat_map, list_any}
 use Rattle.onix_records.specs.Price.{minimum_fields}
 use Rattle.onix_records.specs.declared.parts.Price.{Price}
 use Rattle.feed_terms.specs.Amounts.{two_decimals}
-use Rattle.feed_terms.specs.Barred.{has_place}
 use Rattle.feed_terms.specs.Computed.{computed_by}
-use Rattle.feed_terms.specs.Fits.{fitting, is_of_table}
-use Rattle.feed_terms.specs.GivenStarts.{held_by}
-use Rattle.feed_terms.specs.HeldBack.{is_held_back, place_text}
+use Rattle.feed_terms.specs.Fits.{fitting, is_among, is_of_table}
+use Rattle.feed_terms.specs.HeldBack.{is_held, is_held_back, place_text}
 use Rattle.feed_terms.specs.declared.computed.ComputedPrice.{ComputedPrice}
 use Rattle.feed_terms.specs.declared.price.GivenPrice.{GivenPrice}
 use Rattle.feed_terms.specs.declared.price.Kind.{Kind}
@@ -31,10 +29,15 @@ abbrev pub price_of_computed : Price → ComputedPrice → Price
 price_of_computed price c =
     record price { price_type = c.price_type; amount = c.amount; minimum = c.minimum }
 
--- whether a computed price is held back by what the SupplyDetail gives
+-- whether a price that is computed of another is held back by what is closed, or by a price
+abbrev pub held_by : Beside → Price → ComputedPrice → Bool
+held_by beside price c =
+    is_held beside.closed.now beside.given.now c.price_type price.currency c.minimum price.from
+
+-- whether it is held back by what the SupplyDetail gives
 abbrev pub is_held_beside : Beside → GivenPrice → ComputedPrice → Bool
 is_held_beside beside g c =
-    has_place beside.barred (place_text g) || held_by beside.starts g.price c
+    is_among beside.barred.now (place_text g) || held_by beside g.price c
 
 -- Prices of that supplier, where those that are computed of a price are held back by this test.
 module _ (terms : List Term) (supplier : Option (List ℕ))

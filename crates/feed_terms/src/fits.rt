@@ -2,7 +2,7 @@
 
 ghost use Rattle.std.specs.Prelude.{◌≡◌, IfOk};
 ghost use Rattle.std.specs.Option.{option_copied};
-ghost use Rattle.feed_terms.specs.Fits.{fits_besides, has_discount, has_tax, is_among, is_asked, supplier_text};
+ghost use Rattle.feed_terms.specs.Fits.{fits_besides, has_discount, has_tax, is_among, is_asked, is_for, supplier_text};
 
 use crate::percent::Percent;
 use crate::price::{Discount, GivenPrice};
@@ -27,13 +27,6 @@ pub(crate) fn has_type(types: &[Code2], code: Code2) -> bool
     ensures { result ≡ is_among types.now code }
 {
     types.iter().any(|other| code == *other)
-}
-
-/// Whether a price is of one of the types of a term.
-pub(crate) fn is_of_type(term: &Term, given: &GivenPrice) -> bool
-    ensures { result ≡ is_among term.now.types given.now.price.price_type }
-{
-    has_type(term.types.as_slice(), given.price.price_type)
 }
 
 pub(crate) fn is_among(texts: &[Text], text: &Text) -> bool
@@ -64,6 +57,13 @@ fn is_currency(asked: Option<Currency>, currency: Currency) -> bool
     }
 }
 
+/// Whether a term is for this type and currency.
+pub(crate) fn is_for(term: &Term, price_type: Code2, currency: Currency) -> bool
+    ensures { result ≡ is_for price_type currency term.now }
+{
+    has_type(term.types.as_slice(), price_type) && is_currency(term.currency, currency)
+}
+
 // Whether a Discount says a percent, where a term goes by it.
 fn has_discount(percent: Rate, discounts: &[Discount]) -> bool
     ensures { result ≡ has_discount percent discounts.now }
@@ -91,7 +91,7 @@ fn has_tax(tax: Option<Rate>, said: Option<Percent>) -> bool
 pub(crate) fn fits_besides(term: &Term, supplier: Option<&Text>, given: &GivenPrice) -> bool
     ensures { result ≡ fits_besides (option_copied supplier.entry) given.now term.now }
 {
-    is_of_type(term, given)
+    has_type(term.types.as_slice(), given.price.price_type)
         && is_text(term.supplier.as_ref(), supplier)
         && is_currency(term.currency, given.price.currency)
         && has_discount(term.percent, given.discounts.as_slice())

@@ -1,19 +1,17 @@
 //! The table of terms.
 
-ghost use Rattle.std.specs.Prelude.{◌≡◌, ◌≤◌, ◌&&◌, ◌||◌, ℕ, List, IfOk, OnOk, length, []};
+ghost use Rattle.std.specs.Prelude.{◌≡◌, ◌≤◌, IfOk, length, []};
 ghost use Rattle.std.specs.Option.{option_copied};
 ghost use Rattle.feed_terms.specs.Codes.{first_in, passes_at};
-ghost use Rattle.feed_terms.specs.Fits.{AreKinds, fits_by, has_kind, is_among, is_asked, takes_scheme};
+ghost use Rattle.feed_terms.specs.Fits.{fits_by, takes_scheme};
 
 use crate::codes::CodeIndex;
-use crate::fits::{fits_besides, is_text};
+use crate::fits::{fits_besides, is_for, is_text};
 use crate::price::GivenPrice;
 use crate::term::{Term, TermsFault};
 use crate::toml_terms::read_table;
-use onix_terms::code::{Code2, Currency};
 use onix_terms::text::Text;
 use std::alloc::{AllocError, Global};
-use std::collections::BTreeMap;
 use std::marker::Model;
 
 // Whether a term takes the scheme of a DiscountCoded, where it goes by one.
@@ -76,59 +74,17 @@ fn first_of(
     below
 }
 
-// Adds types, each with the currency of their term.
-fn add_kinds(
-    kinds: &mut BTreeMap<(Code2, Option<Currency>), bool>,
-    types: &[Code2],
-    currency: &Option<Currency>,
-) -> Result<(), AllocError>
-    ensures { OnOk result ((t c : List ℕ) → has_kind kinds.new t c
-        ≡ (has_kind kinds.old t c || (is_among types.now t && is_asked currency.now (Some c)))) }
-{
-    for code in types {
-        kinds.insert((*code, *currency), true)?;
-    }
-    Ok(())
-}
-
-// The types of terms, each with its currency.
-fn kinds_of(
-    alloc: Global,
-    terms: &[Term],
-) -> Result<BTreeMap<(Code2, Option<Currency>), bool>, AllocError>
-    ensures { IfOk result (AreKinds terms.now) }
-{
-    let mut kinds = BTreeMap::new(alloc);
-    for term in terms {
-        add_kinds(&mut kinds, term.types.as_slice(), &term.currency)?;
-    }
-    Ok(kinds)
-}
-
-// Whether a type is among them, with this currency or with each.
-fn has_kind(
-    kinds: &BTreeMap<(Code2, Option<Currency>), bool>,
-    price_type: Code2,
-    currency: Currency,
-) -> bool
-    ensures { result ≡ has_kind kinds.now price_type currency }
-{
-    kinds.contains_key(&(price_type, Some(currency))) || kinds.contains_key(&(price_type, None))
-}
-
 /// The terms of the shop with a wholesaler, which contracts see as the list of them, of which there
 /// are at most 1,000. The first one that fits a price counts.
 #[derive(Drop)]
 pub struct Terms {
     terms: Vec<Term>,
     index: CodeIndex,
-    kinds: BTreeMap<(Code2, Option<Currency>), bool>,
 }
 
 impl Model for Terms {
     ghost use Rattle.std.specs.Prelude.{List, length, ◌≤◌};
     ghost use Rattle.feed_terms.specs.Codes.{Lists};
-    ghost use Rattle.feed_terms.specs.Fits.{AreKinds};
     ghost use Rattle.feed_terms.specs.declared.term.Term.{Term};
 
     ghost Value = { List Term };
@@ -136,7 +92,7 @@ impl Model for Terms {
     ghost view = { λ t. t.terms.items };
 
     ghost invariant = { λ t. (length t.terms.items ≤ 1_000)
-        × (Lists t.terms.items t.index × AreKinds t.terms.items t.kinds) };
+        × Lists t.terms.items t.index };
 }
 
 impl Terms {
@@ -151,7 +107,6 @@ impl Terms {
         Terms {
             terms: Vec::new(alloc),
             index: CodeIndex::new(alloc),
-            kinds: BTreeMap::new(alloc),
         }
     }
 
@@ -176,12 +131,7 @@ impl Terms {
     {
         let terms = read_table(alloc, text)?;
         let index = CodeIndex::of(alloc, terms.as_slice())?;
-        let kinds = kinds_of(alloc, terms.as_slice())?;
-        Ok(Terms {
-            terms,
-            index,
-            kinds,
-        })
+        Ok(Terms { terms, index })
     }
 
     /// The first term that fits a price of this supplier.
@@ -206,6 +156,10 @@ impl Terms {
     pub fn is_for(&self, given: &GivenPrice) -> bool
         ensures { result ≡ is_of_table self.now given.now }
     {
-        has_kind(&self.kinds, given.price.price_type, given.price.currency)
+        let price_type = given.price.price_type;
+        let currency = given.price.currency;
+        self.terms
+            .iter()
+            .any(|term| is_for(term, price_type, currency))
     }
 }

@@ -5,14 +5,13 @@ ghost use Rattle.std.specs.Option.{option_copied};
 ghost use Rattle.onix_records.specs.Price.{minimum_fields};
 ghost use Rattle.std.specs.List.{list_any};
 ghost use Rattle.feed_terms.specs.Fits.{is_of_table};
-ghost use Rattle.feed_terms.specs.GivenStarts.{held_by};
 ghost use Rattle.feed_terms.specs.HeldBack.{is_held_back};
-ghost use Rattle.feed_terms.specs.WithTerms.{HavePrices, IsOutcome, computed_record, remarks_of, is_held_beside, with_computed, with_terms};
+ghost use Rattle.feed_terms.specs.WithTerms.{HavePrices, IsOutcome, computed_record, held_by, remarks_of, is_held_beside, with_computed, with_terms};
 
 use crate::amounts::two_decimals;
-use crate::barred::Barred;
+use crate::barred::{is_barred, unfitted_places};
 use crate::computed::{ComputedPrice, computed_by};
-use crate::held_back::GivenStarts;
+use crate::held_back::is_held;
 use crate::price::{GivenPrice, Kind};
 use crate::table::Terms;
 use crate::term::Term;
@@ -36,11 +35,13 @@ pub struct Remarks {
     pub is_unfitted: bool,
 }
 
-// What a SupplyDetail gives, by which computed prices are held back.
-#[derive(Drop)]
-struct Beside {
-    starts: GivenStarts,
-    barred: Barred,
+// What a SupplyDetail gives, by which computed prices are held back: the types and currencies of
+// Prices that give no record, its prices, and the places of those that no term fits.
+#[derive(Clone, Copy)]
+struct Beside<'a> {
+    closed: &'a [Kind],
+    given: &'a [GivenPrice],
+    barred: &'a [Text],
 }
 
 /// What comes of a Price by the terms.
@@ -51,20 +52,34 @@ pub struct Outcome {
     pub remarks: Remarks,
 }
 
-// The computed prices that are not held back.
+// Whether a price that is computed of another is held back by what is closed, or by a price.
+fn is_held_by(beside: &Beside<'_>, price: &Price, computed: &ComputedPrice) -> bool
+    ensures { result ≡ held_by beside.now price.now computed.now }
+{
+    is_held(
+        beside.closed,
+        beside.given,
+        computed.price_type,
+        price.currency,
+        computed.minimum.value(),
+        price.from,
+    )
+}
+
+// The computed prices that are not held back so.
 fn left_of(
     alloc: Global,
-    starts: &GivenStarts,
+    beside: &Beside<'_>,
     price: &Price,
     prices: &[ComputedPrice],
 ) -> Result<Vec<ComputedPrice>, AllocError>
     ensures left { IfOk result (λ left. left.items
-        ≡ filter (λ c. not (held_by starts.now price.now c)) prices.now) }
+        ≡ filter (λ c. not (held_by beside.now price.now c)) prices.now) }
     ensures no_more { IfOk result (λ left. length left.items ≤ length prices.now) }
 {
     let mut left = Vec::new(alloc);
     for computed in prices {
-        if !starts.hold_back(price, computed) {
+        if !is_held_by(beside, price, computed) {
             left.push(*computed)?;
         }
     }
@@ -111,7 +126,7 @@ fn is_unfitted(terms: &Terms, term: Option<&Term>, given: &GivenPrice) -> bool
 // The computed prices of a Price that are not held back.
 fn left_beside(
     alloc: Global,
-    beside: &Beside,
+    beside: &Beside<'_>,
     given: &GivenPrice,
     prices: &[ComputedPrice],
 ) -> Result<Vec<ComputedPrice>, AllocError>
@@ -119,11 +134,11 @@ fn left_beside(
         ≡ filter (λ c. not (is_held_beside beside.now given.now c)) prices.now) }
     ensures no_more { IfOk result (λ left. length left.items ≤ length prices.now) }
 {
-    let is_barred = beside.barred.has(alloc, given)?;
+    let is_barred = is_barred(alloc, beside.barred, given)?;
     if is_barred {
         return Ok(Vec::new(alloc));
     }
-    left_of(alloc, &beside.starts, &given.price, prices)
+    left_of(alloc, beside, &given.price, prices)
 }
 
 // What comes of a Price of a supplier beside what its SupplyDetail gives.
@@ -131,7 +146,7 @@ fn outcome_of(
     alloc: Global,
     terms: &Terms,
     supplier: Option<&Text>,
-    beside: &Beside,
+    beside: &Beside<'_>,
     given: &GivenPrice,
 ) -> Result<Outcome, AllocError>
     ensures { IfOk result (IsOutcome terms.now (option_copied supplier.entry)
@@ -209,7 +224,7 @@ fn add_with_computed(
     alloc: Global,
     terms: &Terms,
     supplier: Option<&Text>,
-    beside: &Beside,
+    beside: &Beside<'_>,
     given: &GivenPrice,
     source: &Record<'_>,
     fields: &mut FieldBuffer,
@@ -247,9 +262,12 @@ pub fn add_with_terms(
         (option_copied supplier.entry) (is_held_back terms.now (option_copied supplier.entry)
         given.now closed.now)) given.now) }
 {
-    let starts = GivenStarts::of(alloc, closed, given)?;
-    let barred = Barred::of(alloc, terms, supplier, given)?;
-    let beside = Beside { starts, barred };
+    let barred = unfitted_places(alloc, terms, supplier, given)?;
+    let beside = Beside {
+        closed,
+        given,
+        barred: barred.as_slice(),
+    };
     let mut fields = FieldBuffer::new(alloc);
     let mut remarks = Vec::new(alloc);
     for place in 0..given.len() {

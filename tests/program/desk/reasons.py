@@ -73,7 +73,7 @@ def files(room: Room) -> Iterator[Outcome]:
             came = told(room.told(*words), name)
             yield Outcome(f"why: {' '.join(words)}", came, fault(f"file: {name}", status=2))
     room.write("rules.toml", b'[[rule]]\nserie = "*"\n')
-    came = told(room.told("--rules", "rules.toml", "batch"), "rules.toml: rule 1")
+    came = told(room.told("--rules", "rules.toml", "batch"), "rules.toml: line 2")
     yield Outcome("why: a rules file", came, fault("rules: bad rule 1", status=2))
 
 

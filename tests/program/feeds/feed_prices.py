@@ -4,10 +4,14 @@ import calendar
 import re
 from dataclasses import dataclass
 from fractions import Fraction
+from functools import cache
 
-from tests.program.feeds.feed_terms import is_amount, is_code, is_currency, is_day, is_empty_or, is_quantity
+from tests.program.feeds.feed_terms import is_amount, is_code, is_currency, is_day, is_empty_or, is_field, is_quantity
 from tests.program.feeds.feed_territories import (
+    WORLD,
     are_taken,
+    countries_in,
+    is_world,
     places_of,
     regions_in_the_way,
     territory_fields,
@@ -194,6 +198,11 @@ class Priced:
     def is_written(self) -> bool:
         return not self.is_unpriced and not self.reasons()
 
+    def is_written_but_for_amount(self) -> bool:
+        """One without an amount also but for its type and currency."""
+        of_amount = {"PriceAmount"} if self.price.amount else {"PriceAmount", "PriceType", "CurrencyCode"}
+        return self.reasons() <= of_amount
+
     def kind(self) -> Kind:
         return self.price_type, self.currency
 
@@ -230,7 +239,33 @@ def prices_of(detail: Detail, message: Message, unpriced: str) -> list[Priced]:
     for each in found:
         if each.is_written() and each.kind() in closed:
             each.foreign.append("PriceDates")
+    put_narrower_first(found)
     return found
+
+
+def is_as(kind: Kind, other: Kind) -> bool:
+    return kind[0] in ("", other[0]) and kind[1] in ("", other[1])
+
+
+def put_narrower_first(found: list[Priced]) -> None:
+    """A price for the world does not hold where one that is alike has a country of its own."""
+    narrow = [each for each in found if each.is_written_but_for_amount() and not is_world(each.territory)]
+
+    @cache
+    def narrower(alike: Alike) -> list[str]:
+        """The countries of those that are alike; what one without an amount lacks is as any other."""
+        kind, *rest = alike
+        those = [each for each in narrow if [*each.alike()[1:]] == rest and is_as(each.kind(), kind)]
+        return [country for each in those for country in countries_in(each.territory)]
+
+    for each in found:
+        if each.is_written() and is_world(each.territory):
+            excluded = each.territory[2].split()
+            both = list(dict.fromkeys(excluded + narrower(each.alike())))
+            if set(both) != set(excluded):
+                each.territory = ["", WORLD, " ".join(both)]
+            if not is_field(each.territory[2]):
+                each.foreign.append("CountriesExcluded")
 
 
 def count_differing(written: list[Priced]) -> int:

@@ -3,8 +3,6 @@
 import itertools
 import json
 
-from functools import partial
-
 from onixdesk_shop.desk import Gaps, Refused, Taken
 from onixdesk_shop.faults import Fault
 from onixdesk_shop.inbox.context import Inbox
@@ -122,7 +120,8 @@ def settle_refused(inbox: Inbox, row: Row, answer: Refused) -> None:
 
 def retry_unknown(inbox: Inbox, gaps: Gaps) -> None:
     """Posts again what no agreement was for, without a line: that the desk has another one by now shows in nothing else.
-    Behind the first that it takes, what no desk took before is judged anew, there was nothing to compare it with."""
+    Behind the first that it takes, what no desk took before is judged anew, since there was nothing to compare it
+    with."""
     ledger, is_agreed = inbox.ledger, False
     files = "file IN (SELECT id FROM file WHERE state = 'refused' AND why = ?)"
     refused = ledger.messages(f"state = 'refused' AND text IS NOT NULL AND {files}", REASONS["unknown-series"])
@@ -203,8 +202,8 @@ def settle_rejected(inbox: Inbox, gaps: Gaps) -> None:
 def waive(inbox: Inbox, gaps: Gaps) -> Gaps:
     """Waives at the desk what was decided and it lacks. A file that came to a number of these, and was not taken before,
     does not get it at a desk that was restored."""
-    stands = partial(inbox.ledger.stands, states=(State.HELD, State.APPLIED))
-    lacking = [number for number in inbox.ledger.waived() if gaps.lacks(number) and not stands(number)]
+    ledger, taken = inbox.ledger, (State.HELD, State.APPLIED)
+    lacking = [number for number in ledger.waived() if gaps.lacks(number) and not ledger.stands(number, taken)]
     if not lacking:
         return gaps
     for record in inbox.desk.batch("".join(f"Waive,{inbox.series},{number}\n" for number in lacking)):

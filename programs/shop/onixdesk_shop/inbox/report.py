@@ -7,14 +7,13 @@ from onixdesk_shop.desk import Gaps, NoDesk
 from onixdesk_shop.faults import DONE
 from onixdesk_shop.inbox import series_json
 from onixdesk_shop.inbox.context import Inbox
-from onixdesk_shop.inbox.ledger import State
 from onixdesk_shop.inbox.posting import REASONS
 from onixdesk_shop.inbox.show import moment
 from onixdesk_shop.lines import count, cut, token
 from onixdesk_shop.places import FETCH_SETTINGS
 from onixdesk_shop.settings import read_lines
 
-WAITING = (State.NEW, State.QUARANTINED, State.REFUSED, State.POSTING, State.HELD)
+WAITING = "state IN ('new', 'quarantined', 'refused', 'posting', 'held')"
 
 LAST_FILES, WEEK = 3, 7 * 86_400
 
@@ -41,8 +40,7 @@ def lines(inbox: Inbox) -> Iterator[str]:
         yield f"{name}: {value}"
     if gaps and gaps.missing:
         yield "missing: " + ", ".join(f"{low} to {high}" for low, high in gaps.missing)
-    marks = ", ".join("?" for _ in WAITING)
-    for file in inbox.ledger.files(f"state IN ({marks})", *WAITING):
+    for file in inbox.ledger.files(WAITING):
         yield f"{file.mark}: {file.state} since {moment(file.at)}: {cut(file.why) or '-'}; {token(file.name)}"
     yield from of_the_week(inbox)
     yield from not_verified(inbox)

@@ -1,13 +1,15 @@
-use Rattle.std.proofs.Common.{◌≡◌, ◌≤◌, ◌++◌, ◌∷◌, ◌∙◌, [], List, Some, length, ap, sym, subst, arith}
+use Rattle.std.proofs.Common.{◌≡◌, ◌≤◌, ◌++◌, ◌∷◌, ◌∙◌, [], List, Some, length, map, ap, sym, subst, arith}
 use Rattle.std.specs.Prelude.{codes, if◌then◌else◌, nat_lt}
 use Rattle.std.proofs.lemmas.Bool.Decides.{nat_tests}
-use Rattle.std.proofs.lemmas.List.{append-nil}
+use Rattle.std.proofs.lemmas.List.{append-nil, map-append}
 use Rattle.onix_records.specs.declared.parts.Price.{Price}
 use Rattle.feed_terms.specs.declared.price.GivenPrice.{GivenPrice}
-use Rattle.feed_mapping.specs.Elements.{Composite}
-use Rattle.feed_mapping.specs.Prices.{context_view, price_fields}
-use Rattle.feed_mapping.specs.PriceTerms.{given_in, given_of, kinds_closed}
+use Rattle.feed_mapping.specs.Elements.{Composite, element_view}
+use Rattle.feed_mapping.specs.declared.price_terms.Place.{Place}
+use Rattle.feed_mapping.specs.Prices.{context_view, written_fields}
+use Rattle.feed_mapping.specs.PriceTerms.{given_in, given_of, kinds_closed, places_view}
 use Rattle.feed_mapping.specs.Records.{Fields}
+use Rattle.feed_mapping.proofs.ComputedRows.{long-written}
 use Rattle.feed_mapping.proofs.SeenPrices.{IsNew, new-price, unseen}
 use Rattle.feed_mapping.proofs.price_terms.add_written.Goals as goal
 
@@ -20,9 +22,10 @@ pub returns-then-len-count-clause-given : goal.returns-then-len-count-clause-giv
 returns-then-len-count-clause-given c =
     sym (ap (λ (g : List GivenPrice). c.args.written.now.given.items ++ g) (nothing-seen c) ∙ append-nil c.args.written.now.given.items)
 
-pub returns-then-len-count-clause-are_written : goal.returns-then-len-count-clause-are_written
-returns-then-len-count-clause-are_written c =
-    c.in_ok-push.ensures.items ∙ ap (λ (g : List GivenPrice). c.args.written.now.are_written.items ++ nat_lt 0 (length g) ∷ []) (sym (nothing-seen c))
+pub returns-then-len-count-clause-places : goal.returns-then-len-count-clause-places
+returns-then-len-count-clause-places c =
+    let old = places_view c.args.written.now.places.items in
+    sym (ap (λ (g : List GivenPrice). old ++ map (λ x. c.args.price.now.element) g) (nothing-seen c) ∙ append-nil old)
 
 pub returns-then-len-count-clause-closed : goal.returns-then-len-count-clause-closed
 returns-then-len-count-clause-closed c =
@@ -34,26 +37,26 @@ returns-then-len-count-clause-closed c =
 pub given_of-requires : goal.given_of-requires
 given_of-requires c =
     let n = new-price (context_view c.args.context.now) c.args.price.now c.args.written.now.records c.add_price.new.records c.in_ok-add_price.ensures.records (λ same. grind (arith, nat_tests)) in
-    let written : c.record-2.result ≡ codes "Price" ∷ price_fields (context_view c.args.context.now) c.args.price.now.below = let holds = n.holds in cc in
-    subst (λ (f : Fields). 9 ≤ length f) (sym written) (omega arith)
+    let written : c.record-2.result ≡ codes "Price" ∷ written_fields (context_view c.args.context.now) c.args.price.now.below = let holds = n.holds in cc in
+    subst (λ (f : Fields). 9 ≤ length f) (sym written) (long-written (context_view c.args.context.now) c.args.price.now.below)
 
-one-seen : (c : goal.In_ok-push-3) → IsNew (context_view c.args.context.now) c.args.price.now c.args.written.now.records c.add_price.new.records
+one-seen : (c : goal.In_ok-push-2) → IsNew (context_view c.args.context.now) c.args.price.now c.args.written.now.records c.add_price.new.records
 one-seen c =
     new-price (context_view c.args.context.now) c.args.price.now c.args.written.now.records c.add_price.new.records c.in_ok-add_price.ensures.records
     (λ same. grind (arith, nat_tests))
 
-said-is : (c : goal.In_ok-push-3) → Some c.in-Some.said ≡ Some ((one-seen c).price)
+said-is : (c : goal.In_ok-push-2) → Some c.in-Some.said ≡ Some ((one-seen c).price)
 said-is c =
     let n = one-seen c in
-    let own : c.record.result ≡ codes "Price" ∷ price_fields (context_view c.args.context.now) c.args.price.now.below =
+    let own : c.record.result ≡ codes "Price" ∷ written_fields (context_view c.args.context.now) c.args.price.now.below =
     let holds = n.holds in cc in
-    let read = c.in_ok-said.ensures (price_fields (context_view c.args.context.now) c.args.price.now.below) own n.utf8 in
+    let read = c.in_ok-said.ensures (written_fields (context_view c.args.context.now) c.args.price.now.below) own n.utf8 in
     let is = n.read in cc
 
-given-is : (c : goal.In_ok-push-3) → given_in (context_view c.args.context.now) c.args.price.now.below ≡ c.in_ok-given.given ∷ []
+given-is : (c : goal.In_ok-push-2) → given_in (context_view c.args.context.now) c.args.price.now.below ≡ c.in_ok-given.given ∷ []
 given-is c =
     let n = one-seen c in
-    let fields = codes "Price" ∷ price_fields (context_view c.args.context.now) c.args.price.now.below in
+    let fields = codes "Price" ∷ written_fields (context_view c.args.context.now) c.args.price.now.below in
     let written : c.record-2.result ≡ fields = let holds = n.holds in cc in
     let same : c.in-Some.said ≡ n.price = let said = said-is c in cc in
     let own : c.in_ok-given.given ≡ given_of c.in-Some.said fields c.args.price.now.below =
@@ -62,11 +65,13 @@ given-is c =
 
 pub returns-clause-given : goal.returns-clause-given
 returns-clause-given c =
-    c.in_ok-push-2.ensures.items ∙ ap (λ (g : List GivenPrice). c.args.written.now.given.items ++ g) (sym (given-is c))
+    c.in_ok-push.ensures.items ∙ ap (λ (g : List GivenPrice). c.args.written.now.given.items ++ g) (sym (given-is c))
 
-pub returns-clause-are_written : goal.returns-clause-are_written
-returns-clause-are_written c =
-    c.in_ok-push-3.ensures.items ∙ ap (λ (g : List GivenPrice). c.args.written.now.are_written.items ++ nat_lt 0 (length g) ∷ []) (sym (given-is c))
+pub returns-clause-places : goal.returns-clause-places
+returns-clause-places c =
+    let old = places_view c.args.written.now.places.items in
+    ap places_view c.in_ok-push-2.ensures.items ∙ map-append (λ (p : Place). element_view p.line.now) c.args.written.now.places.items _
+    ∙ ap (λ (x : Composite). old ++ x.element ∷ []) c.price.view_is ∙ ap (λ (g : List GivenPrice). old ++ map (λ x. c.args.price.now.element) g) (sym (given-is c))
 
 pub returns-clause-closed : goal.returns-clause-closed
 returns-clause-closed c =

@@ -1,12 +1,12 @@
-use Rattle.std.proofs.Common.{◌≡◌, ◌<◌, ◌≤◌, ◌||◌, ◌++◌, ℕ, List, Option, length, ap, arith, ◌∙◌}
+use Rattle.std.proofs.Common.{◌≡◌, ◌<◌, ◌≤◌, ◌||◌, ◌++◌, ℕ, List, [], ◌∷◌, Option, length, map, refl, ap, arith, ◌∙◌}
 use Rattle.std.proofs.Math.Path.{fun_ext}
+use Rattle.std.specs.List.{list_any}
 use Rattle.std.specs.Option.{option_copied}
-use Rattle.feed_terms.specs.Barred.{AreBarred}
-use Rattle.feed_terms.specs.GivenStarts.{IsIndexOf, held_by}
-use Rattle.feed_terms.specs.HeldBack.{is_barred, is_held_back, place_text}
-use Rattle.feed_terms.specs.WithTerms.{is_held_beside, remarks_of, with_all}
+use Rattle.std.specs.Str.{bytes_eq}
+use Rattle.feed_terms.specs.Fits.{is_among}
+use Rattle.feed_terms.specs.HeldBack.{is_held_back, place_text, unfitted}
+use Rattle.feed_terms.specs.WithTerms.{held_by, is_held_beside, remarks_of, with_all}
 use Rattle.feed_terms.specs.declared.price.GivenPrice.{GivenPrice}
-use Rattle.feed_terms.specs.declared.price.Kind.{Kind}
 use Rattle.feed_terms.specs.declared.term.Term.{Term}
 use Rattle.feed_terms.specs.declared.with_terms.Beside.{Beside}
 use Rattle.feed_terms.proofs.WithRecords.{all_mapped, mapped_more, with_past, with_step}
@@ -16,7 +16,7 @@ pub loop-place-preserved : goal.loop-place-preserved
 loop-place-preserved c =
     let terms = c.args.terms.now in
     let supplier = option_copied c.args.supplier in
-    let held = is_held_beside (record { starts = c.in_ok-starts.starts; barred = c.in_ok-barred.barred }) in
+    let held = is_held_beside (record { closed = c.args.closed; given = c.args.given; barred = c.as_slice.result }) in
     let given = c.args.given.now in
     let i = c.loop-place.place in
     let in_records : i < length c.args.records.now = omega (arith, c.requires.count) in record {
@@ -27,11 +27,16 @@ loop-place-preserved c =
       remarks = mapped_more (remarks_of terms supplier held) given i c.index-given-place.result _ _ c.in_ok-remark.remark c.loop-place-test.true c.index-given-place.is c.loop-place.invariant.remarks c.in_ok-push.ensures.items c.in_ok-remark.ensures.remarks;
     }
 
+-- any of the places of some prices is any of those prices in that place
+any_place : (text : List ℕ) (given : List GivenPrice) → is_among (map place_text given) text ≡ list_any (λ g. bytes_eq text (place_text g)) given
+any_place text [] = refl
+any_place text (g ∷ given) = ap (λ b. bytes_eq text (place_text g) || b) (any_place text given)
+
 -- what holds back is what the SupplyDetail gives
-same_held : (terms : List Term) (supplier : Option (List ℕ)) (closed : List Kind) (given : List GivenPrice) (beside : Beside) → IsIndexOf closed given beside.starts → AreBarred terms supplier given beside.barred
-    → is_held_beside beside ≡ is_held_back terms supplier given closed
-same_held terms supplier closed given beside index are =
-    fun_ext (λ g. fun_ext (λ x. ap (λ b. b || held_by beside.starts g.price x) (are (place_text g)) ∙ ap (λ b. is_barred terms supplier given g || b) (index x.price_type g.price.currency x.minimum g.price.from)))
+same_held : (terms : List Term) (supplier : Option (List ℕ)) (beside : Beside) → beside.barred.now ≡ map place_text (unfitted terms supplier beside.given.now)
+    → is_held_beside beside ≡ is_held_back terms supplier beside.given.now beside.closed.now
+same_held terms supplier beside are =
+    fun_ext (λ g. fun_ext (λ x. ap (λ b. b || held_by beside g.price x) (ap (λ k. is_among k (place_text g)) are ∙ any_place (place_text g) (unfitted terms supplier beside.given.now))))
 
 pub returns-clause-records : goal.returns-clause-records
 returns-clause-records c =
@@ -39,10 +44,10 @@ returns-clause-records c =
     let supplier = option_copied c.args.supplier in
     let given = c.args.given.now in
     let records = c.args.records.now in
-    let beside : Beside = record { starts = c.in_ok-starts.starts; barred = c.in_ok-barred.barred } in
+    let beside : Beside = record { closed = c.args.closed; given = c.args.given; barred = c.as_slice.result } in
     let past : length records ≤ c.loop-place.place = omega (arith, c.requires.count, c.loop-place-test.false) in
     with_past terms supplier (is_held_beside beside) c.loop-place.output _ records given c.loop-place.place past c.loop-place.invariant.records
-    ∙ ap (λ h. c.args.output.now ++ with_all terms supplier h records given) (same_held terms supplier c.args.closed.now given beside c.in_ok-starts.ensures c.in_ok-barred.ensures)
+    ∙ ap (λ h. c.args.output.now ++ with_all terms supplier h records given) (same_held terms supplier beside (c.as_slice.ensures ∙ c.in_ok-barred.ensures))
 
 pub returns-clause-remarks : goal.returns-clause-remarks
 returns-clause-remarks c =
@@ -50,6 +55,6 @@ returns-clause-remarks c =
     let supplier = option_copied c.args.supplier in
     let remarks = remarks_of terms supplier in
     let given = c.args.given.now in
-    let beside : Beside = record { starts = c.in_ok-starts.starts; barred = c.in_ok-barred.barred } in
-    let same = same_held terms supplier c.args.closed.now given beside c.in_ok-starts.ensures c.in_ok-barred.ensures in
+    let beside : Beside = record { closed = c.args.closed; given = c.args.given; barred = c.as_slice.result } in
+    let same = same_held terms supplier beside (c.as_slice.ensures ∙ c.in_ok-barred.ensures) in
     all_mapped (remarks (is_held_beside beside)) (remarks (is_held_back terms supplier given c.args.closed.now)) given c.loop-place.place c.loop-place.remarks.items c.loop-place.invariant.remarks c.loop-place-test.false (ap remarks same)

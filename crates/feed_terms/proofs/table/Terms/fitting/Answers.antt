@@ -26,7 +26,7 @@ loop-said-init c =
     let terms = c.as_slice-terms.result.now in
     first_start besides terms c.first_of-first.result
     (c.first_of-first.ensures
-    ∙ ap (first_in (passes_at besides terms) (length terms)) (c.as_slice-without.ensures.value ∙ c.self.invariant.1.0.uncoded ∙ ap (indexes_from None 0) (sym c.as_slice-terms.ensures.value)))
+    ∙ ap (first_in (passes_at besides terms) (length terms)) (c.as_slice-without.ensures.value ∙ c.self.invariant.1.uncoded ∙ ap (indexes_from None 0) (sym c.as_slice-terms.ensures.value)))
 
 pub loop-said-preserved : goal.loop-said-preserved
 loop-said-preserved c =
@@ -37,7 +37,7 @@ loop-said-preserved c =
     first_more besides terms c.args.given.now.codes i said c.loop-said.first c.first_of-first-in-loop-said.result (subst (λ (xs : List SaidCode). i < length xs) c.as_slice-said-items.ensures c.loop-said-test.true)
     (subst (λ (xs : List SaidCode). said ≡ get_or xs i said) c.as_slice-said-items.ensures c.said-item.is) c.loop-said.invariant
     (c.first_of-first-in-loop-said.ensures
-    ∙ ap (first_in (passes_at (by_scheme besides said) terms) c.loop-said.first) (c.at-asking.ensures ∙ c.self.invariant.1.0.coded said.code ∙ ap (indexes_from (Some said.code) 0) (sym c.as_slice-terms.ensures.value)))
+    ∙ ap (first_in (passes_at (by_scheme besides said) terms) c.loop-said.first) (c.at-asking.ensures ∙ c.self.invariant.1.coded said.code ∙ ap (indexes_from (Some said.code) 0) (sym c.as_slice-terms.ensures.value)))
 
 pub returns : goal.returns
 returns c =

@@ -63,6 +63,8 @@ class Sent:
     is_let_in: bool = False
     # Whether a desk was seen without it, since a person refused it.
     is_gone: bool = False
+    # Whether a desk was corrected by it: then desk-restore takes no copy that has it.
+    is_taken_out: bool = False
     # Whether a desk had it that is here or in a copy, as an older ledger was put back.
     was_had: bool = False
     # Whether the machine with its bytes is gone.
@@ -269,7 +271,8 @@ class Model(RuleBasedStateMachine):
     def restore(self, which: int) -> None:
         desk = self.copies[which % len(self.copies)].copy()
         had = set(map(bare, desk.series[SERIES].had.values()))
-        if any(sent.is_gone and not had.isdisjoint(self.all_parts(sent)) for sent in self.sent.values()):
+        gone = [sent for sent in self.sent.values() if sent.is_gone or sent.is_taken_out]
+        if any(not had.isdisjoint(self.all_parts(sent)) for sent in gone):
             # It has what was refused, and taken out since: desk-restore does not take it.
             return
         self.inbox.desk = desk
@@ -362,7 +365,7 @@ class Model(RuleBasedStateMachine):
             if sent.is_rejected and row.state in ("posted", "held", "applied"):
                 self.inbox.series.had.pop(row.number, None)
                 self.is_restored = True
-                sent.is_gone = not self.unsure
+                sent.is_gone, sent.is_taken_out = not self.unsure, True
 
     @rule(days=st.integers(4, 6))
     def change_settings(self, days: int) -> None:

@@ -533,7 +533,8 @@ class Model(RuleBasedStateMachine):
             stays += [sent for sent in [*candidates, *waiting] if sent.number == number and sent.was_had]
             for part, at in enumerate(self.numbers_of(number)):
                 right = self.may_be(standing, part) if standing else [None]
-                right += [None] if is_kept_out else []
+                # A half that another file of these products took over goes with that one.
+                right += [None] if is_kept_out or standing and products_of(standing) in refused else []
                 right += [each for sent in stays for each in self.may_be(sent, part)]
                 right += [WAIVED] if at in self.waived else []
                 assert bare(series.had.get(at)) in right, (at, series.had.get(at), right)

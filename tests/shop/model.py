@@ -527,14 +527,16 @@ class Model(RuleBasedStateMachine):
             over = [sent for sent in had if self.unsure or products_of(sent) in refused]
             standing = next((sent for sent in candidates if not sent.is_rejected and sent not in over), None)
             stays = [sent for sent in candidates if sent.is_rejected and not sent.is_gone]
+            # Another file of the same products may have taken half of it over.
+            others = [sent for sent in candidates if not sent.is_rejected and sent not in resent]
+            stays += [sent for sent in others if products_of(sent) in refused]
             # Half of a feed that a person refused keeps others out, until it is corrected.
             is_kept_out = any(self.is_at(sent, series) for sent in stays)
             # An older ledger does not know what was posted, or refused.
             stays += [sent for sent in [*candidates, *waiting] if sent.number == number and sent.was_had]
             for part, at in enumerate(self.numbers_of(number)):
                 right = self.may_be(standing, part) if standing else [None]
-                # A half that another file of these products took over goes with that one.
-                right += [None] if is_kept_out or standing and products_of(standing) in refused else []
+                right += [None] if is_kept_out else []
                 right += [each for sent in stays for each in self.may_be(sent, part)]
                 right += [WAIVED] if at in self.waived else []
                 assert bare(series.had.get(at)) in right, (at, series.had.get(at), right)

@@ -13,7 +13,7 @@ from tests.running import Outcome
 from tests.shop.fake_desk import FakeDesk, Series
 from tests.shop.fake_machine import FakeMachine, Killed
 from tests.shop.fake_program import SENDER, feed_of, message_of, product_of
-from tests.shop.inboxes import SHOP
+from tests.shop.inboxes import SHOP, START
 
 ADDRESSEE = "06", "5012345678900"
 
@@ -91,6 +91,15 @@ def of_others(room: Room) -> Iterator[Outcome]:
         yield Outcome(f"{number}: numbers and price", (sorted(inbox.series.had), price_of(inbox, "R1")), wanted)
         has_all = {"R1", "S1", "S2"} <= set(inbox.series.catalogue())
         yield Outcome(f"{number}: nothing is lost", has_all, True)
+
+
+def older(room: Room) -> Iterator[Outcome]:
+    """What a desk took before, and this one does not take yet, has its place in the order."""
+    inbox = inbox_in(room, "older", number=NEXT)
+    inbox.take("1.xml", feed_of(None, {"R1": "1.00"}))
+    inbox.begin_desk(ADDRESSEE)
+    inbox.take("old.xml", feed_of(None, {"R1": "2.00"}), START - 100)
+    yield Outcome("a late file", inbox.states(), {"1.xml": "refused", "old.xml": "quarantined"})
 
 
 def compared(room: Room) -> Iterator[Outcome]:

@@ -36,7 +36,7 @@ module _ (one : RowsHaveOneContent) (image : Image) (d : Trees) (found : AreFoun
   none_of (inr (db, both, sound, emptied)) L rows =
       empty_holds_no_rows d L (db, sym (found_trees image db.trees d both found), (emptied, sound)) rows
 
-  one_of : (L M : List Request) → AreFilesOf image L → AreFilesOf image M → SameContent L M
+  pub one_of : (L M : List Request) → AreFilesOf image L → AreFilesOf image M → SameContent L M
   one_of L M (inl a) (inl b) = one d L M (rows_of L a) (rows_of M b)
   one_of L M (inl a) (inr b) = absurd (none_of b.0 L (rows_of L a))
   one_of L M (inr a) (inl b) = absurd (none_of a.0 M (rows_of M b))

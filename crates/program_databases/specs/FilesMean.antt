@@ -4,6 +4,7 @@ use Rattle.sqlite.specs.Files.{image_of}
 use Rattle.sqlite_disk.specs.declared.Disk.{Ghosts}
 use Rattle.sqlite_disk.specs.declared.Files.{Files}
 use Rattle.sqlite_store.specs.declared.store.FileStore.{FileStore}
+use Rattle.sqlite_trees.specs.Tree.{Trees}
 use Rattle.sqlite_wal.specs.Reads.{AreClean}
 use Rattle.sqlite_wal.specs.Recovery.{Image}
 use Rattle.price_rules.specs.declared.precedence.Rule.{Rule}
@@ -11,7 +12,7 @@ use Rattle.series_rules.specs.Content.{SameContent}
 use Rattle.series_rules.specs.Steps.{Leads, Step, with_answered}
 use Rattle.series_rules.specs.declared.requests.Request.{Request}
 use Rattle.desk_rows.specs.Seen.{in_tables}
-use Rattle.desk_versions.specs.Openings.{AreEmptyFiles}
+use Rattle.desk_versions.specs.Openings.{AreEmptyFiles, AreFoundAs}
 use Rattle.program_desks.specs.DeskFiles.{DeskFiles}
 use Rattle.program_desks.specs.declared.kept_desks.Creation.{Creation}
 use Rattle.program_databases.specs.FileViews.{MayBeTaken}
@@ -37,10 +38,9 @@ module _ {K O U D : Type 0} (g : Ghosts D) (held : K → List ℕ → Image)
         → Leads rules steps (files.found desks name creation) (files.closed now)
         → AreClean g now.log now.db → AreOf (held desks name) L
         → AreOf (image_of g now) (with_answered L steps)
-    -- lists of which the same files are, if these may be opened, come to the same
-    pub one : (desks : K) (name : List ℕ) (creation : Creation)
-        → (files.found desks name creation).sound → (L M : List Request)
-        → AreOf (held desks name) L → AreOf (held desks name) M → SameContent L M
+    -- lists of which the same files are, if something is found in these, come to the same
+    pub one : (image : Image) (d : Trees) → AreFoundAs image d → (L M : List Request)
+        → AreOf image L → AreOf image M → SameContent L M
 
   -- the files of a name are opened only if they may be taken for a desk
   abbrev pub AreTakenRightly : Type 0

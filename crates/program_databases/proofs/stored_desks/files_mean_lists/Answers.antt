@@ -1,6 +1,5 @@
 use Rattle.std.proofs.Common.{inl, inr, refl}
-use Rattle.program_databases.proofs.ContentLemmas.{hands_on, image_holds_one}
-use Rattle.program_databases.proofs.ViewLemmas.{same_refl}
+use Rattle.program_databases.proofs.ContentLemmas.{hands_on, one_of}
 use Rattle.program_databases.proofs.stored_desks.files_mean_lists.Goals as goal
 
 pub returns-clause-lists : goal.returns-clause-lists
@@ -12,7 +11,7 @@ returns-clause-lists g c =
       clean = λ now. (λ is. is, λ is. is);
       blank = λ image empty. inr (empty, refl);
       handed = λ rules steps desks name creation now L leads clean are. hands_on g.O.File.Disk rules steps (held desks.databases name) creation now L leads clean are;
-      one = λ desks name creation sound L M a b. image_holds_one c.rows_have_one_content.ensures (held desks.databases name) creation sound L M (L, a, same_refl L) (M, b, same_refl M);
+      one = one_of c.rows_have_one_content.ensures;
     }
 
 pub returns-clause-taken : goal.returns-clause-taken

@@ -1,2 +1,1 @@
-mod CommandLemmas
-mod AskedLemmas
+pub mod CommandLemmas

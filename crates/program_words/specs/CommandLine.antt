@@ -45,10 +45,6 @@ some_operands name least = record (new_rule name) {
 abbrev pub needed : Rule → Rule
 needed r = record r { required = true }
 
--- the same, which excludes another option or goes only with it
-abbrev pub tied : Rule → Rule
-tied r = record r { is_free = false }
-
 -- ---- the commands
 
 -- the command of that name with these options and operands
@@ -61,7 +57,7 @@ command_of name words = record (new_shape (codes name)) { rules = words }
 abbrev pub convert_command : Shape
 convert_command = command_of "convert" (
     number_option (codes "parts") 1 9999
-    ∷ tied (number_option (codes "number") 1 999999999)
+    ∷ number_option (codes "number") 1 999999999
     ∷ number_option (codes "number-offset") 0 999999998
     ∷ text_option (codes "sender")
     ∷ text_option (codes "addressee")
@@ -87,9 +83,9 @@ serve_command = command_of "serve" (
 abbrev pub program_options : List Rule
 program_options =
     text_option (codes "db")
-    ∷ tied (flag_option (codes "existing"))
+    ∷ flag_option (codes "existing")
     ∷ text_option (codes "rules")
-    ∷ tied (text_option (codes "batches"))
+    ∷ text_option (codes "batches")
     ∷ []
 
 -- agreements, batch, check FILE.., convert, deliver FILE.., export, gaps [NAME], migrate,

@@ -1,5 +1,5 @@
 -- What the words of the command `convert` ask for.
-use Rattle.std.specs.Prelude.{◌≡◌, ◌<◌, ◌≤◌, ℕ, List, [], ◌∷◌, Bool, true, false, Option, Some, None, ◌&&◌, ◌==◌, if◌then◌else◌, codes, count_by, is_some, length, map, nat_lt, option_map, unwrap_or}
+use Rattle.std.specs.Prelude.{◌≡◌, ◌≢◌, ◌<◌, ◌≤◌, ℕ, List, [], ◌∷◌, Bool, true, false, Option, Some, None, ◌&&◌, ◌==◌, if◌then◌else◌, codes, count_by, is_some, length, map, nat_lt, option_map, unwrap_or}
 use Rattle.std.specs.Char.{is_ascii_digit}
 use Rattle.std.specs.Option.{option_map_or}
 use Rattle.std.specs.Str.{bytes_eq}
@@ -88,6 +88,11 @@ AreOptions own o =
 abbrev pub inputs_in : List Text → ℕ
 inputs_in files = count_by (λ name. bytes_eq name (codes "-")) files
 
+-- a number is given, and how many are added to that of the message
+abbrev pub has_two_numbers : List Row → Bool
+has_two_numbers own =
+    is_some (text_in own (codes "number")) && is_some (text_in own (codes "number-offset"))
+
 -- several FILEs need a folder, no number is for all of them, and standard input is read once
 abbrev pub AreForFiles : Asked → Type 0
 AreForFiles a =
@@ -101,6 +106,7 @@ AsksFor own a =
     × (a.folder ≡ text_in own (codes "folder"))
     × (a.terms ≡ text_in own (codes "terms"))
     × (a.files ≡ files_named own)
+    × (has_two_numbers own ≡ false)
     × AreForFiles a
 
 -- this is the word of an option, and it is not read
@@ -124,13 +130,18 @@ abbrev pub IsOf : OptionName → (List ℕ → Type 0) → BadWords → Type 0
 IsOf option such (bad.Value told word) = (told ≡ option) × such word.now
 IsOf option such other = ⊥
 
--- Why words ask for nothing: one breaks its rule, or they are not for several FILEs; or memory ran
--- out.
+-- Why words ask for nothing: one breaks its rule, they name two numbers or are not for several
+-- FILEs; or memory ran out.
 abbrev pub AsksNothing : List Row → BadWords → Type 0
 AsksNothing own (bad.Value option word) = IsWrongWord own option word.now
+AsksNothing own bad.TwoNumbers = has_two_numbers own ≡ true
 AsksNothing own bad.NoFolder =
     (1 < length (files_named own)) × (text_in own (codes "folder") ≡ None)
 AsksNothing own bad.OneNumber =
     (1 < length (files_named own)) × (is_some (text_in own (codes "number")) ≡ true)
 AsksNothing own bad.OneInput = 1 < inputs_in (files_named own)
 AsksNothing own bad.Memory = Unit {0}
+
+-- they ask for nothing, and not for want of memory
+abbrev pub IsBroken : List Row → BadWords → Type 0
+IsBroken own told = AsksNothing own told × (told ≢ bad.Memory)

@@ -1,10 +1,9 @@
 -- What stands for an option or operand, by its name.
-use Rattle.std.specs.Prelude.{ℕ, Bool, false, List, Option, codes, option_map}
+use Rattle.std.specs.Prelude.{Bool, false, List, Option, codes}
 use Rattle.std.specs.Option.{option_map_or}
 use Rattle.std.specs.Str.{bytes_eq}
-use Rattle.std.specs.Str.Parse.{digits_value, without_leading_plus}
 use Rattle.clap.specs.Matches.{found_of}
-use Rattle.clap.specs.Walk.{Row, Text, all_of, first_of, one_of, rows_of}
+use Rattle.clap.specs.Walk.{Row, Text, all_of, first_of, rows_of}
 use Rattle.clap.specs.declared.parser.matches.ArgMatches.{ArgMatches}
 
 -- the options and operands that clap found
@@ -18,11 +17,6 @@ text_in words name = first_of name words
 -- the texts of the operand
 abbrev pub texts_in : List Row → Text → Option (List Text)
 texts_in words name = all_of name words
-
--- the number that its digits write
-abbrev pub number_in : List Row → Text → Option ℕ
-number_in words name =
-    option_map (λ t. digits_value 10 (without_leading_plus t)) (one_of name words)
 
 -- the option without a text is there
 abbrev pub has_flag : List Row → Text → Bool

@@ -3,7 +3,7 @@
 ghost use Rattle.std.specs.Prelude.{◌∷◌, ℕ, [], IfOk, codes};
 ghost use Rattle.clap.specs.Simple.{App, Shape, new_shape, with_rule, with_subcommand};
 ghost use Rattle.clap.specs.Walk.{Rule};
-ghost use Rattle.program_words.specs.CommandLine.{IsCommand, IsProgram, IsWord, command_of, convert_command, flag_option, free_operand, needed, number_option, onixdesk, program_of, program_options, serve_command, short_option, some_operands, text_option, tied};
+ghost use Rattle.program_words.specs.CommandLine.{IsCommand, IsProgram, IsWord, command_of, convert_command, flag_option, free_operand, needed, number_option, onixdesk, program_of, program_options, serve_command, short_option, some_operands, text_option};
 
 use clap::builder::ValueParser;
 use clap::{Arg, ArgAction, Command};
@@ -309,8 +309,8 @@ fn parts<'a>(alloc: Global) -> Arg<'a>
     )
 }
 
-fn number<'a>(alloc: Global) -> Result<Arg<'a>, AllocError>
-    ensures { IfOk result (IsWord (tied (number_option (codes "number") 1 999999999))) }
+fn number<'a>(alloc: Global) -> Arg<'a>
+    ensures { IsWord (number_option (codes "number") 1 999999999) result }
 {
     number_option(
         alloc,
@@ -320,7 +320,6 @@ fn number<'a>(alloc: Global) -> Result<Arg<'a>, AllocError>
         999_999_999,
         "The number of the message, in place of its own; for one FILE alone",
     )
-    .conflicts_with("number-offset")
 }
 
 fn number_offset<'a>(alloc: Global) -> Arg<'a>
@@ -430,7 +429,7 @@ fn convert<'a>(alloc: Global) -> Result<Command<'a>, AllocError>
         "Converts ONIX for Books messages in XML, release 3.0 or 3.1, to the CSV records that the desk reads. Notes on standard error tell what is left out. A FILE that is refused gives no output, and the others are done. Without -o the records of one FILE go to standard output. With it each message becomes NAME.csv, or NAME.part-01.csv and so on, NAME being the FILE without its extension; an existing file is never overwritten: it is a fault unless it has the same bytes. A packed FILE is refused: unpack it before, gunzip -c FILE | onixdesk convert.\n\nExample: onixdesk convert -o records feed.xml",
     );
     let convert = with_word(Ok(convert), Ok(parts(alloc)));
-    let convert = with_word(convert, number(alloc));
+    let convert = with_word(convert, Ok(number(alloc)));
     let convert = with_word(convert, Ok(number_offset(alloc)));
     let convert = with_word(convert, Ok(sender(alloc)));
     let convert = with_word(convert, Ok(addressee(alloc)));
@@ -455,15 +454,14 @@ fn db<'a>(alloc: Global) -> Arg<'a>
 }
 
 // The option `--existing`, which stands beside `--db`.
-fn existing<'a>(alloc: Global) -> Result<Arg<'a>, AllocError>
-    ensures { IfOk result (IsWord (tied (flag_option (codes "existing")))) }
+fn existing<'a>(alloc: Global) -> Arg<'a>
+    ensures { IsWord (flag_option (codes "existing")) result }
 {
     flag_option(
         alloc,
         "existing",
         "If the file of --db does not exist, or is the database of another program, the command fails and creates nothing",
     )
-    .requires_arg("db")
 }
 
 // The option `--rules FILE`, which stands before the command.
@@ -479,8 +477,8 @@ fn rules<'a>(alloc: Global) -> Arg<'a>
 }
 
 // The option `--batches SOCKET`, which stands before the command `batch`.
-fn batches<'a>(alloc: Global) -> Result<Arg<'a>, AllocError>
-    ensures { IfOk result (IsWord (tied (text_option (codes "batches")))) }
+fn batches<'a>(alloc: Global) -> Arg<'a>
+    ensures { IsWord (text_option (codes "batches")) result }
 {
     text_option(
         alloc,
@@ -488,8 +486,6 @@ fn batches<'a>(alloc: Global) -> Result<Arg<'a>, AllocError>
         "SOCKET",
         "Send the batch to the desk that is open at this socket, that of serve --batches. Give this option before the command batch; no desk is opened here",
     )
-    .conflicts_with("db")?
-    .conflicts_with("rules")
 }
 
 // The program's own words.
@@ -512,9 +508,9 @@ fn with_options<'a>(alloc: Global) -> Result<Command<'a>, AllocError>
     ensures { IfOk result (IsProgram (program_of program_options [])) }
 {
     let program = with_word(Ok(named(alloc)), Ok(db(alloc)));
-    let program = with_word(program, existing(alloc));
+    let program = with_word(program, Ok(existing(alloc)));
     let program = with_word(program, Ok(rules(alloc)));
-    with_word(program, batches(alloc))
+    with_word(program, Ok(batches(alloc)))
 }
 
 /// The program with all its commands. Without memory there is none.

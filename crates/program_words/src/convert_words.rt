@@ -1,13 +1,13 @@
 //! The words of the command `convert`.
 
-ghost use Rattle.std.specs.Prelude.{◌≡◌, IfErr, IfOk, Some, codes, map, option_map};
+ghost use Rattle.std.specs.Prelude.{◌≡◌, ◌≢◌, IfErr, IfOk, Some, codes, map, option_map};
 ghost use Rattle.onix_terms.specs.Code.{code2_of};
 ghost use Rattle.onix_terms.specs.Digits.{digits_of};
 ghost use Rattle.onix_terms.specs.Number.{number_of};
 ghost use Rattle.feed_mapping.specs.PartyViews.{pair_view};
 ghost use Rattle.feed_conversion.specs.Views.{options_view};
 ghost use Rattle.feed_conversion.specs.declared.options.Allowed.TheVariants.{FewWrong};
-ghost use Rattle.program_words.specs.ConvertWords.{AreOptions, AsksFor, AsksNothing, IsOf, IsUnread, allowed_of, asked_view, files_named, identifier_of, inputs_in, is_value, word_as, word_or};
+ghost use Rattle.program_words.specs.ConvertWords.{AreOptions, AsksFor, AsksNothing, IsOf, IsUnread, allowed_of, asked_view, files_named, has_two_numbers, identifier_of, inputs_in, is_value, word_as, word_or};
 ghost use Rattle.program_words.specs.Words.{words_in};
 
 use crate::arguments::{text_in, texts_in};
@@ -85,6 +85,8 @@ pub struct Conversion<'a> {
 pub enum BadWords<'a> {
     /// The word of an option is not what it has to be.
     Value { option: OptionName, word: &'a str },
+    /// `--number` beside `--number-offset`.
+    TwoNumbers,
     /// Several FILEs without a folder.
     NoFolder,
     /// `--number` with several FILEs.
@@ -106,13 +108,23 @@ impl From<AllocError> for BadWords<'_> {
 }
 
 impl<'a> BadWords<'a> {
+    ghost use Rattle.program_words.specs.declared.convert_words.BadWords.TheVariants.{Memory};
+
     /// What is said of it, but of memory that ran out.
-    pub fn text(&self, alloc: Global) -> Result<String, AllocError> {
+    pub fn text(&self, alloc: Global) -> Result<String, AllocError>
+        ensures { IfOk result (λ _. self.now ≢ Memory) }
+    {
         match self {
             BadWords::Value { option, word } => {
                 let rule = option.rule();
                 let option = option.shown();
                 format!(in alloc; "error: invalid value '{word}' for '{option}': not {rule}\n")
+            }
+            BadWords::TwoNumbers => {
+                String::from_str(
+                    alloc,
+                    "error: --number and --number-offset exclude each other\n",
+                )
             }
             BadWords::NoFolder => String::from_str(alloc, "error: several FILEs need -o FOLDER\n"),
             BadWords::OneNumber => {
@@ -316,9 +328,16 @@ fn options_of<'a>(words: &ArgMatches<'a>) -> Result<Options<'a>, BadWords<'a>>
     })
 }
 
+// Whether a number is given, and what is added to that of the message.
+fn has_two_numbers(words: &ArgMatches<'_>) -> bool
+    ensures { result ≡ has_two_numbers (words_in words.now) }
+{
+    text_in(words, "number").is_some() && text_in(words, "number-offset").is_some()
+}
+
 /// What words that clap let pass ask of `convert`: each is read by its rule, and what is not there has
-/// its default. Of words that break their rules it tells one, and else that several FILEs need a folder
-/// or have no number in common, or that standard input is named twice.
+/// its default. Of words that break their rules it tells one, and else that two numbers are named, that
+/// several FILEs need a folder or have no number in common, or that standard input is named twice.
 pub fn conversion_of<'a>(
     alloc: Global,
     words: &ArgMatches<'a>,
@@ -330,6 +349,9 @@ pub fn conversion_of<'a>(
         Ok(options) => options,
         Err(bad) => return Err(bad),
     };
+    if has_two_numbers(words) {
+        return Err(BadWords::TwoNumbers);
+    }
     let files = files_of(alloc, words)?;
     let folder = text_in(words, "folder");
     if files.len() > 1 && folder.is_none() {

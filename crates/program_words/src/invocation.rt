@@ -1,10 +1,11 @@
 //! What the words of the command line ask for, read by clap.
 
-ghost use Rattle.std.specs.Prelude.{◌≡◌, ◌∷◌, ℕ, List, None, Option, Some, IfOk, IfSome, codes, map, unwrap_or};
+ghost use Rattle.std.specs.Prelude.{◌≡◌, ◌∷◌, ℕ, List, None, Option, Some, IfOk, IfSome, codes, map};
 ghost use Rattle.clap.specs.Simple.{subcommand_rows_of};
+ghost use Rattle.clap.specs.Values.{kind_of};
 ghost use Rattle.clap.specs.Walk.{Row, Text};
-ghost use Rattle.program_words.specs.Asked.{IsDatabase, IsListing, IsTask, Reads, ReadsAs, ReadsWords};
-ghost use Rattle.program_words.specs.Words.{number_in, text_in, words_in};
+ghost use Rattle.program_words.specs.Asked.{IsDatabase, IsListing, IsRefused, IsTask, IsWrong, Reads, ReadsAs, ReadsKind, ReadsWords, file_in, files_in, go_together, port_in, requests_in};
+ghost use Rattle.program_words.specs.Words.{text_in, words_in};
 
 use crate::arguments::{has_flag, text_in, texts_in};
 use crate::commands::program;
@@ -12,6 +13,7 @@ use crate::convert_words::{Conversion, conversion_of};
 use crate::hints::hint;
 use clap::error::ErrorKind;
 use clap::{ArgMatches, Error};
+use onix_terms::digits::read_digits;
 use std::alloc::{AllocError, Global};
 
 /// A command over a desk, with its words.
@@ -87,7 +89,7 @@ pub enum Reading<'a> {
     Run(Invocation<'a>),
     /// Help or the version, where asked for.
     Help(String),
-    /// A fault of the command line, as clap words it.
+    /// A fault of the command line.
     Wrong(String),
     /// `migrate` without a database file.
     NoDatabase,
@@ -99,18 +101,26 @@ pub enum Reading<'a> {
     Memory,
 }
 
+// What is said of options before the command that do not go together.
+const APART: &str =
+    "error: --existing goes with --db alone, and --batches with neither --db nor --rules\n";
+
+// What is said of a number of `serve` that is not read.
+const TOO_LONG: &str = "error: a number of serve has at most 9 digits\n";
+
 // What clap could not read as an invocation, and, where a word is out of its place, what to write.
 fn error_reading<'a>(alloc: Global, words: &[&str], error: &Error) -> Reading<'a>
-    ensures { (top : List Row) (command : Option (Text × List Row))
-        → ReadsWords top command result }
+    ensures kind { ReadsKind (kind_of error.now) result }
+    ensures memory { kind_of error.now ≡ ErrorKind.OutOfMemory → result ≡ Reading.Memory }
 {
-    if error.kind() == ErrorKind::OutOfMemory {
+    let kind = error.kind();
+    if kind == ErrorKind::OutOfMemory {
         return Reading::Memory;
     }
     let Ok(mut text) = error.to_string(alloc) else {
         return Reading::Memory;
     };
-    if !error.use_stderr() {
+    if kind == ErrorKind::DisplayHelp || kind == ErrorKind::DisplayVersion {
         return Reading::Help(text);
     }
     match text.push_str(hint(words)) {
@@ -119,66 +129,58 @@ fn error_reading<'a>(alloc: Global, words: &[&str], error: &Error) -> Reading<'a
     }
 }
 
-// The task of `deliver`: its files.
-fn deliver_task<'a>(alloc: Global, words: &ArgMatches<'a>) -> Result<Option<Task<'a>>, AllocError>
-    ensures { IfOk result (λ task. IfSome task (IsTask (codes "deliver") (words_in words.now))) }
+// The words are told to be wrong.
+fn wrong_reading<'a>(alloc: Global, text: &str) -> Reading<'a>
+    ensures wrong { IsWrong result }
+    ensures refused { (top : List Row) (name : Text) (own : List Row) → IsRefused name own
+        → ReadsAs top name own result }
 {
-    let Some(files) = texts_in(words, "file") else {
-        return Ok(None);
-    };
-    Ok(Some(Task::Deliver(Vec::from_slice(alloc, files)?)))
-}
-
-// The task of `gaps`: its series.
-fn gaps_task<'a>(words: &ArgMatches<'a>) -> Option<Task<'a>>
-    ensures { IfSome result (IsTask (codes "gaps") (words_in words.now)) }
-{
-    Some(Task::Gaps(text_in(words, "name")?))
-}
-
-// The port of `serve`.
-fn port(words: &ArgMatches<'_>) -> Option<u16>
-    ensures { IfSome result (λ port. number_in (words_in words.now) (codes "port") ≡ Some port) }
-{
-    words.get_one::<u16>("port")
-}
-
-// How many connections `serve` is for. None where what stands there is no number.
-fn requests(words: &ArgMatches<'_>) -> Option<u64>
-    ensures { IfSome result (λ requests.
-        requests ≡ unwrap_or (number_in (words_in words.now) (codes "requests")) u64.MAX) }
-{
-    match words.try_get_one::<u64>("requests") {
-        Ok(given) => Some(given.unwrap_or(u64::MAX)),
-        Err(_) => None,
+    match String::from_str(alloc, text) {
+        Ok(text) => Reading::Wrong(text),
+        Err(AllocError) => Reading::Memory,
     }
 }
 
-// The task of `serve`: its port, how many connections, and its socket.
-fn serve_task<'a>(words: &ArgMatches<'a>) -> Option<Task<'a>>
-    ensures { IfSome result (IsTask (codes "serve") (words_in words.now)) }
+// The FILE that a command needs.
+fn file_of<'a>(words: &ArgMatches<'a>) -> &'a str
+    ensures { result.now ≡ file_in (words_in words.now) }
 {
-    Some(Task::Serve {
-        port: port(words)?,
-        requests: requests(words)?,
-        batches: text_in(words, "batches"),
-    })
+    match text_in(words, "file") {
+        Some(file) => file,
+        None => "",
+    }
 }
 
-// The task of the command of that name, or none where a word is missing, which clap does not let pass.
-fn task_of<'a>(
-    alloc: Global,
-    name: &str,
-    words: &ArgMatches<'a>,
-) -> Result<Option<Task<'a>>, AllocError>
-    ensures { IfOk result (λ task. IfSome task (IsTask name.now (words_in words.now))) }
+// The FILEs that a command needs.
+fn files_of<'a>(alloc: Global, words: &ArgMatches<'a>) -> Result<Vec<&'a str>, AllocError>
+    ensures { IfOk result (λ files. map (λ file. file.now) files.items
+        ≡ files_in (words_in words.now)) }
 {
-    match name {
-        "batch" => Ok(Some(Task::Batch)),
-        "deliver" => deliver_task(alloc, words),
-        "gaps" => Ok(gaps_task(words)),
-        "serve" => Ok(serve_task(words)),
-        _ => Ok(None),
+    match texts_in(words, "file") {
+        Some(files) => Vec::from_slice(alloc, files),
+        None => Ok(Vec::new(alloc)),
+    }
+}
+
+// The port of `serve`.
+fn port_of(words: &ArgMatches<'_>) -> Option<u16>
+    ensures { result ≡ port_in (words_in words.now) }
+{
+    let port = read_digits(text_in(words, "port")?)?;
+    if port <= 65_535 {
+        Some(port as u16)
+    } else {
+        None
+    }
+}
+
+// How many connections `serve` is for.
+fn requests_of(words: &ArgMatches<'_>) -> Option<u64>
+    ensures { result ≡ requests_in (words_in words.now) }
+{
+    match text_in(words, "requests") {
+        Some(word) => Some(u64::from(read_digits(word)?)),
+        None => Some(u64::MAX),
     }
 }
 
@@ -189,28 +191,6 @@ fn database_of<'a>(matches: &ArgMatches<'a>) -> Option<Database<'a>>
     let name = text_in(matches, "db")?;
     let is_existing = has_flag(matches, "existing");
     Some(Database { name, is_existing })
-}
-
-// What `gaps` without a NAME lists.
-fn gaps_listing<'a>(words: &ArgMatches<'a>) -> Option<Listing>
-    ensures { IfSome result (IsListing (codes "gaps") (words_in words.now)) }
-{
-    match text_in(words, "name") {
-        None => Some(Listing::Gaps),
-        Some(_) => None,
-    }
-}
-
-// What the command of that name lists, or none where it lists nothing.
-fn listing_of<'a>(name: &str, words: &ArgMatches<'a>) -> Option<Listing>
-    ensures { IfSome result (IsListing name.now (words_in words.now)) }
-{
-    match name {
-        "agreements" => Some(Listing::Agreements),
-        "export" => Some(Listing::Export),
-        "gaps" => gaps_listing(words),
-        _ => None,
-    }
 }
 
 // What a command asks for that lists what a desk holds.
@@ -229,20 +209,11 @@ fn listing_reading<'a>(matches: &ArgMatches<'a>, listing: Listing) -> Reading<'a
 }
 
 // What a command asks for that has a task over a desk.
-fn task_reading<'a>(
-    alloc: Global,
-    matches: &ArgMatches<'a>,
-    name: &str,
-    words: &ArgMatches<'a>,
-) -> Reading<'a>
-    ensures { text_in (words_in matches.now) (codes "batches") ≡ None
-        → ReadsAs (words_in matches.now) name.now (words_in words.now) result }
+fn task_reading<'a>(matches: &ArgMatches<'a>, task: Task<'a>) -> Reading<'a>
+    ensures { (name : Text) (own : List Row) → IsTask name own task.entry
+        → text_in (words_in matches.now) (codes "batches") ≡ None
+        → ReadsAs (words_in matches.now) name own result }
 {
-    let task = match task_of(alloc, name, words) {
-        Ok(Some(task)) => task,
-        Ok(None) => return Reading::Wrong(String::new(alloc)),
-        Err(AllocError) => return Reading::Memory,
-    };
     match database_of(matches) {
         Some(db) => Reading::Run(Invocation {
             rules: text_in(matches, "rules"),
@@ -255,20 +226,50 @@ fn task_reading<'a>(
     }
 }
 
-// What a command over a desk asks for.
-fn desk_reading<'a>(
+// What `gaps` asks for: with a NAME one series, without it all.
+fn gaps_reading<'a>(matches: &ArgMatches<'a>, words: &ArgMatches<'a>) -> Reading<'a>
+    ensures { text_in (words_in matches.now) (codes "batches") ≡ None
+        → ReadsAs (words_in matches.now) (codes "gaps") (words_in words.now) result }
+{
+    match text_in(words, "name") {
+        Some(series) => task_reading(matches, Task::Gaps(series)),
+        None => listing_reading(matches, Listing::Gaps),
+    }
+}
+
+// What `deliver` asks for.
+fn deliver_reading<'a>(
     alloc: Global,
     matches: &ArgMatches<'a>,
-    name: &str,
     words: &ArgMatches<'a>,
 ) -> Reading<'a>
     ensures { text_in (words_in matches.now) (codes "batches") ≡ None
-        → ReadsAs (words_in matches.now) name.now (words_in words.now) result }
+        → ReadsAs (words_in matches.now) (codes "deliver") (words_in words.now) result }
 {
-    match listing_of(name, words) {
-        Some(listing) => listing_reading(matches, listing),
-        None => task_reading(alloc, matches, name, words),
+    match files_of(alloc, words) {
+        Ok(files) => task_reading(matches, Task::Deliver(files)),
+        Err(AllocError) => Reading::Memory,
     }
+}
+
+// What `serve` asks for.
+fn serve_reading<'a>(alloc: Global, matches: &ArgMatches<'a>, words: &ArgMatches<'a>) -> Reading<'a>
+    ensures { text_in (words_in matches.now) (codes "batches") ≡ None
+        → ReadsAs (words_in matches.now) (codes "serve") (words_in words.now) result }
+{
+    let Some(port) = port_of(words) else {
+        return wrong_reading(alloc, TOO_LONG);
+    };
+    let Some(requests) = requests_of(words) else {
+        return wrong_reading(alloc, TOO_LONG);
+    };
+    let batches = text_in(words, "batches");
+    let task = Task::Serve {
+        port,
+        requests,
+        batches,
+    };
+    task_reading(matches, task)
 }
 
 // What `migrate` asks for.
@@ -320,17 +321,27 @@ fn convert_reading<'a>(alloc: Global, words: &ArgMatches<'a>) -> Reading<'a>
 }
 
 // What `rules` asks for.
-fn rules_reading<'a>(alloc: Global, words: &ArgMatches<'a>) -> Reading<'a>
+fn rules_reading<'a>(words: &ArgMatches<'a>) -> Reading<'a>
     ensures { (top : List Row) → text_in top (codes "batches") ≡ None
         → ReadsAs top (codes "rules") (words_in words.now) result }
 {
-    match text_in(words, "file") {
-        Some(file) => Reading::Run(Invocation {
-            rules: None,
-            action: Action::CheckRules { file },
-        }),
-        None => Reading::Wrong(String::new(alloc)),
-    }
+    let file = file_of(words);
+    Reading::Run(Invocation {
+        rules: None,
+        action: Action::CheckRules { file },
+    })
+}
+
+// What `terms` asks for.
+fn terms_reading<'a>(words: &ArgMatches<'a>) -> Reading<'a>
+    ensures { (top : List Row) → text_in top (codes "batches") ≡ None
+        → ReadsAs top (codes "terms") (words_in words.now) result }
+{
+    let file = file_of(words);
+    Reading::Run(Invocation {
+        rules: None,
+        action: Action::CheckTerms { file },
+    })
 }
 
 // What `check` asks for.
@@ -338,29 +349,12 @@ fn check_reading<'a>(alloc: Global, words: &ArgMatches<'a>) -> Reading<'a>
     ensures { (top : List Row) → text_in top (codes "batches") ≡ None
         → ReadsAs top (codes "check") (words_in words.now) result }
 {
-    let Some(files) = texts_in(words, "file") else {
-        return Reading::Wrong(String::new(alloc));
-    };
-    match Vec::from_slice(alloc, files) {
+    match files_of(alloc, words) {
         Ok(files) => Reading::Run(Invocation {
             rules: None,
             action: Action::CheckTexts { files },
         }),
-        Err(_) => Reading::Memory,
-    }
-}
-
-// What `terms` asks for.
-fn terms_reading<'a>(alloc: Global, words: &ArgMatches<'a>) -> Reading<'a>
-    ensures { (top : List Row) → text_in top (codes "batches") ≡ None
-        → ReadsAs top (codes "terms") (words_in words.now) result }
-{
-    match text_in(words, "file") {
-        Some(file) => Reading::Run(Invocation {
-            rules: None,
-            action: Action::CheckTerms { file },
-        }),
-        None => Reading::Wrong(String::new(alloc)),
+        Err(AllocError) => Reading::Memory,
     }
 }
 
@@ -377,27 +371,46 @@ fn command_reading<'a>(
         return send_reading(socket, name);
     }
     match name {
+        "agreements" => listing_reading(matches, Listing::Agreements),
+        "batch" => task_reading(matches, Task::Batch),
         "check" => check_reading(alloc, words),
         "convert" => convert_reading(alloc, words),
+        "deliver" => deliver_reading(alloc, matches, words),
+        "export" => listing_reading(matches, Listing::Export),
+        "gaps" => gaps_reading(matches, words),
         "migrate" => migrate_reading(matches),
-        "rules" => rules_reading(alloc, words),
-        "terms" => terms_reading(alloc, words),
-        _ => desk_reading(alloc, matches, name, words),
+        "rules" => rules_reading(words),
+        "serve" => serve_reading(alloc, matches, words),
+        "terms" => terms_reading(words),
+        _ => wrong_reading(alloc, ""),
     }
+}
+
+// Whether the options before the command go together.
+fn go_together(matches: &ArgMatches<'_>) -> bool
+    ensures { result ≡ go_together (words_in matches.now) }
+{
+    let has_db = text_in(matches, "db").is_some();
+    let has_rules = text_in(matches, "rules").is_some();
+    let is_sent = text_in(matches, "batches").is_some();
+    (!has_flag(matches, "existing") || has_db) && !(is_sent && (has_db || has_rules))
 }
 
 // What words that clap let pass ask for.
 fn matched_reading<'a>(alloc: Global, matches: &ArgMatches<'a>) -> Reading<'a>
     ensures { ReadsWords (words_in matches.now) (subcommand_rows_of matches.now) result }
 {
-    match matches.subcommand() {
-        Some((name, words)) => command_reading(alloc, matches, name, words),
-        None => Reading::Wrong(String::new(alloc)),
+    let Some((name, words)) = matches.subcommand() else {
+        return wrong_reading(alloc, "");
+    };
+    if !go_together(matches) {
+        return wrong_reading(alloc, APART);
     }
+    command_reading(alloc, matches, name, words)
 }
 
-/// Reads the words, of which the first is the program's name. A fault of the command line and a
-/// call for help are as clap words them.
+/// Reads the words, of which the first is the program's name. A fault that clap finds and a call for
+/// help are as clap words them.
 pub fn read<'a>(alloc: Global, words: &'a [&'a str]) -> Reading<'a>
     ensures { Reads (map (λ word. word.now) words.entry.now) result }
 {

@@ -1,5 +1,5 @@
-use Rattle.std.proofs.Common.{refl, sym}
+use Rattle.std.proofs.Common.{refl}
 use Rattle.program_words.proofs.invocation.terms_reading.Goals as goal
 
-pub returns-in-Some : goal.returns-in-Some
-returns-in-Some c = λ top none. ((refl, sym c.in-Some.ensures, none), refl)
+pub returns : goal.returns
+returns c = λ top none. ((refl, c.file_of-file.ensures, none), refl)

@@ -1,5 +1,5 @@
 """What a full file does not name any more: deleted by records at its end, for the desk has no file that says all. These
-records are the one thing about an offer that is decided without proof."""
+records are the one thing that the desk is told without proof."""
 
 from __future__ import annotations
 

@@ -6,4 +6,4 @@ abbrev pub decreases-count_at : goal.decreases-count_at
 decreases-count_at l = length l.path.now
 
 abbrev pub decreases-loop-element : goal.decreases-loop-element
-decreases-loop-element l = length (composites l.name.now.now l.rest)
+decreases-loop-element l = length (composites l.name.now l.rest)

@@ -29,6 +29,8 @@ returns-in-Err c =
     elim (c.in-Err.ensures.kinds (ap is_simple_and_free is ∙ onixdesk_is_free)) [
       | inl out ↦ inl (c.error_reading.ensures.memory out)
       | inr among ↦ inr (inl (
-          kind, subst (λ (a : App). IsAmong kind (fault_of a words)) is among, c.error_reading.ensures.kind,
+        kind,
+        subst (λ (a : App). IsAmong kind (fault_of a words)) is among,
+        c.error_reading.ensures.kind,
       ))
     ]

@@ -93,8 +93,6 @@ def convert(
         ended = machine.run(call, (DONE, FAILED, BAD_CALL), pieces_of(source), CONVERSION_SECONDS)
     except Damaged as damaged:
         raise Refusal(str(damaged)) from None
-    except BadEnd as end:
-        raise Refusal(f"its conversion failed: {end}") from None
     said = said_in(ended.errors)
     if ended.status == BAD_CALL:
         raise BadCall(f"WORDS or TERMS: {cut(said.lines[0].removeprefix(PROGRAM_SAYS)) if said.lines else ''}")

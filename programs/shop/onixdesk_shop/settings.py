@@ -56,6 +56,10 @@ class Settings:
             return False
         return not self.full_names or any(fnmatch.fnmatchcase(name, pattern) for pattern in self.full_names)
 
+    def says_all(self, name: str) -> bool:
+        """Whether a file of that name is a whole load by itself, of a wholesaler whose numbers are the inbox's own."""
+        return self.number == NEXT and self.full == 1 and self.is_full(name)
+
 
 def read_lines(machine: Machine, path: Path) -> dict[str, tuple[int, str]]:
     """What each NAME of a file is set to, and at which line."""

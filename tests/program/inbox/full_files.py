@@ -81,3 +81,17 @@ def of_a_resend(room: Room) -> Iterator[Outcome]:
     for days, wanted in (6, "1 article deleted in seven days"), (2, "0 articles deleted in seven days"):
         inbox.clock += days * 86_400
         yield Outcome(wanted, f"\n{wanted}\n" in inbox.says(report.report), True)
+
+
+def a_load_in_files(room: Room) -> Iterator[Outcome]:
+    """A file of a load does not take the place of another one of it that waits for a person."""
+    inbox = inbox_in(room, "load", full=5)
+    for price in ("1.00", "3.00"):
+        for part in "abc":
+            products = {f"{part}{number}": price if part == "a" or price == "1.00" else "1.10" for number in range(12)}
+            inbox.send(f"{part}-{price}.xml", feed_of(None, products))
+        inbox.run()
+    yield Outcome("it waits", [*inbox.states().values()], [*["applied"] * 3, "quarantined", "new", "new"])
+    inbox.decide("let-in", "quarantined")
+    inbox.run()
+    yield Outcome("let in", {*inbox.states().values()}, {"applied"})

@@ -125,9 +125,9 @@ def kinds_of(inbox: Inbox, products: dict[str, list[Product]]) -> list[Kind]:
     prices: Counter[tuple[str, str]] = Counter()
     countries: Counter[str] = Counter()
     quantities: Counter[int] = Counter()
-    # Without a shop's settings: for whom the last message with prices was.
+    # For whom the last message with prices was, too: what deletes, or is for others now, does not say it.
     query = "SELECT max(number) FROM message WHERE state = 'applied' AND kinds <> '[]' AND text IS NOT NULL"
-    number = None if inbox.shop else inbox.ledger.value(query)
+    number = inbox.ledger.value(query)
     last = products_of(inbox.ledger.text(number)) if number else ()
     for product in itertools.chain(last, *products.values()):
         prices.update(product.kinds)
@@ -139,7 +139,7 @@ def kinds_of(inbox: Inbox, products: dict[str, list[Product]]) -> list[Kind]:
     shop = inbox.shop
     of_file = [(currency, price_type) for (price_type, currency), _ in prices.most_common(2)]
     pairs = [*([(shop.currency, shop.price_type)] if shop else []), *of_file]
-    most = countries.most_common(1 if shop else 2)
+    most = countries.most_common(2)
     places = [*([shop.country] if shop else []), *(name for name, _ in most)] or ["GB"]
     copies = [*(shop.quantities[:3] if shop else [1]), *(number for number, _ in quantities.most_common(1))]
     kinds = [Kind(place, *pair, number) for pair in pairs for place in places for number in copies]

@@ -113,5 +113,9 @@ class Inbox:
     def tell_known(self, file: File, before: File) -> None:
         if before.state == State.REJECTED:
             self.tell_file(WARNING, file, "these bytes were refused by a person, and stay so")
+        elif before.state == State.REPLACED:
+            self.tell_file(
+                WARNING, file, "a newer full file came in place of these bytes, and they are not taken any more"
+            )
         elif before.number is not None:
             self.tell_file(NOTICE, file, f"had it already: {before.state} from number {before.number} on")

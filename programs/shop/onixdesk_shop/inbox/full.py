@@ -13,7 +13,6 @@ from onixdesk_shop.inbox.ledger import File, Message, Row, State
 from onixdesk_shop.inbox.quarantine import LEAST, Quarantine
 from onixdesk_shop.lines import ERROR, count
 from onixdesk_shop.messages import is_end, products_of, records_of, text_of
-from onixdesk_shop.settings import NEXT
 
 if TYPE_CHECKING:
     from onixdesk_shop.inbox.judging import Feed
@@ -104,7 +103,7 @@ def with_deletions_of(inbox: Inbox, row: Row, message: Message) -> Message:
 def replace_older(inbox: Inbox, file: File) -> None:
     """A full file that passes, and has a new number, says all: what is older and waits for a person is not taken any
     more."""
-    if not inbox.settings.is_full(file.name) or inbox.settings.number != NEXT:
+    if not inbox.settings.says_all(file.name):
         return
     for older in inbox.ledger.files(
         "state IN (?, ?) AND time < ? AND ending <> '.csv'", State.QUARANTINED, State.NEW, file.time

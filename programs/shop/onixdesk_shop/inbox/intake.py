@@ -1,5 +1,6 @@
 """What the folder of a wholesaler has, taken into the store: copied, synced, written down, and only then removed."""
 
+import os
 import re
 from pathlib import Path
 
@@ -79,7 +80,7 @@ def take_file(inbox: Inbox, entry: Entry) -> str:
         machine.rename(copy, stored)
     machine.sync_folder(inbox.store)
     before = inbox.ledger.latest(digest)
-    file = inbox.ledger.take(digest, shown(entry.name), ending, entry.size, entry.modified, time_of(entry), is_new)
+    file = inbox.ledger.take(digest, shown(name_of(entry)), ending, entry.size, entry.modified, time_of(entry), is_new)
     if before:
         if before.ending != file.ending:
             machine.remove(inbox.stored(before))
@@ -96,6 +97,11 @@ def time_of(entry: Entry) -> int:
     return min(entry.modified, entry.changed) if entry.modified >= FIRST_TIME else entry.changed
 
 
+def name_of(entry: Entry) -> str:
+    """By which it came: FULL_NAMES go by it."""
+    return re.sub("^taken-[0-9a-f]{12}-", "", entry.name)
+
+
 def is_as_it_was(inbox: Inbox, entry: Entry) -> bool:
     try:
         return inbox.machine.entry(inbox.incoming / entry.name) == entry
@@ -106,7 +112,7 @@ def is_as_it_was(inbox: Inbox, entry: Entry) -> bool:
 def remove(inbox: Inbox, entry: Entry, mark: str) -> None:
     """Removes a file that is in the store. It gets a name of ours first: what took its place meanwhile is taken by the
     next run, before that name is used again."""
-    taken = inbox.incoming / f"taken-{mark}{Path(entry.name).suffix.lower()}"
+    taken = inbox.incoming / f"taken-{mark}-{os.fsdecode(os.fsencode(name_of(entry))[-200:])}"
     if entry.name != taken.name and inbox.machine.exists(taken):
         return
     try:

@@ -11,7 +11,7 @@ from pathlib import Path
 
 from onixdesk_shop.batches import MOST_BYTES
 from onixdesk_shop.desk import Gaps, Refused, Taken
-from onixdesk_shop.faults import Fault
+from onixdesk_shop.faults import BadEnd, Fault
 from onixdesk_shop.feeds import Refusal, Said, check, convert
 from onixdesk_shop.inbox import full, quarantine
 from onixdesk_shop.inbox.context import Inbox
@@ -58,6 +58,9 @@ def judge(inbox: Inbox, file: File, gaps: Gaps) -> None:
         inbox.tell_refused(file, str(refusal), None, *offset_for(inbox, inbox.ledger.file(file.id), gaps))
     except Quarantine as why:
         quarantine_file(inbox, file, str(why))
+    except BadEnd as end:
+        # Not the file's fault, for all that is known: a person has it tried again.
+        quarantine_file(inbox, file, f"its conversion failed: {end}")
     except (Fault, OSError, sqlite3.Error):
         raise
     except Exception as error:
@@ -113,7 +116,7 @@ def agreement(inbox: Inbox, file: File) -> str:
     try:
         feed = feed_of(inbox, file, Gaps(1, 1, None, ()), list(inbox.settings.words), inbox.terms)
         addressee = header_of(feed.messages[0].text).addressee
-    except Refusal:
+    except (Refusal, BadEnd):
         addressee = "", ""
     return inbox.ledger.agreement(inbox.series, inbox.settings.sender, addressee=addressee)
 

@@ -68,7 +68,7 @@ def next_file(inbox: Inbox, seen: set[int]) -> File | None:
             continue
         if first is None or (file.time, file.name, file.id) < first:
             return file
-        if inbox.settings.gives_number(file.ending) and inbox.settings.is_full(file.name):
+        if file.ending != ".csv" and inbox.settings.says_all(file.name):
             return file
     return None
 
@@ -78,7 +78,9 @@ def tell_waiting(inbox: Inbox, gaps: Gaps | None) -> None:
     since = inbox.ledger.value("SELECT min(at) FROM message WHERE state = 'held'")
     if gaps and since is not None and inbox.machine.now() - since > DAY:
         command = f"onixdesk-inbox waive {inbox.series} {gaps.next} (or have it sent again)"
-        inbox.tell_once(f"waits {gaps.next}", ERROR, f"{command}; the series waits for number {gaps.next} for a day")
+        inbox.tell_once(
+            f"waits {gaps.next} {since}", ERROR, f"{command}; the series waits for number {gaps.next} for a day"
+        )
     heard = inbox.ledger.heard_at()
     if heard is not None and inbox.machine.now() - heard > inbox.settings.silent_days * DAY:
         inbox.tell_once("silent", ERROR, f"nothing came for {inbox.settings.silent_days} days but empty files")

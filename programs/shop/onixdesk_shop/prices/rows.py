@@ -34,7 +34,7 @@ def may_be_old(machine: Machine, state: Path) -> bool:
     if machine.now() - shown.get("at", 0) > SEEN_SECONDS or not shown.get("desk") or shown.get("silent"):
         return True
     is_missing = shown["greatest"] is not None and shown["next"] <= shown["greatest"]
-    return bool(is_missing or shown.get("quarantined") or shown.get("refused"))
+    return is_missing or any(shown.get(key) for key in ("quarantined", "refused", "waiting"))
 
 
 def row(isbn: str, answers: list[Records], shop: Shop, old: set[str]) -> dict[str, str]:

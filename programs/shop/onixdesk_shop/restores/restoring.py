@@ -149,8 +149,7 @@ class Restore:
         self.prepare(self.present())
         work.make_ready()
         self.put_ledgers_back()
-        if options.text or self.has_refused:
-            self.note_correction()
+        self.note_corrections()
         before = work.put_in_place()
         stood = f"the one before is {before}" if machine.exists(before) else "there was none before"
         machine.tell(NOTICE, f"the desk is in place as {options.db}; {stood}")
@@ -162,12 +161,16 @@ class Restore:
         if self.units.all:
             self.units.systemctl("stop", *self.units.all)
 
-    def note_correction(self) -> None:
-        """Copies until the one that is put into place are right where what was refused is not in it."""
+    def note_corrections(self) -> None:
+        """Those of the copy too, which another machine has not. Copies until the one that is put into place are right
+        where what was refused is not in it."""
         options, folder = self.options, self.options.db.parent
-        last = options.copy.name if not options.text and is_name(options.copy.name) else ""
-        lines = [*corrections_in(self.machine, folder), f"{last} {named(self.machine.now())}: {shown(options.said)}\n"]
-        self.machine.write_whole(folder / CORRECTIONS, "\n".join(lines).encode(), 0o600)
+        found = dict.fromkeys([*corrections_in(self.machine, folder), *corrections_in(self.machine, options.copy)])
+        if options.text or self.has_refused:
+            last = options.copy.name if not options.text and is_name(options.copy.name) else ""
+            found[f"{last} {named(self.machine.now())}: {shown(options.said)}"] = None
+        if found:
+            self.machine.write_whole(folder / CORRECTIONS, "".join(f"{line}\n" for line in found).encode(), 0o600)
 
     def put_ledgers_back(self) -> None:
         """A ledger of the copy has its place where there is none."""

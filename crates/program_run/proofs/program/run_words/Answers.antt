@@ -17,12 +17,11 @@ returns-in-Err-rules_of-clause-end g c =
     let remaining = g.R.Read.remaining in
     let machine = c.args.machine.now in
     let after = record machine { streams = c.read_words.new.streams } in
-    let result = (c.status_of.result, Untouched c.args.databases) in
     inl (
       c.in-Ok.invocation,
       c.in-Ok.ensures.ok.1,
-      subst (λ s. InvocationEnds ghosts.seen g.K.KeepsDesks.files holds lacks contents remaining c.args.databases (record machine { streams = s }) after result c.in-Ok.invocation
-          (ActionEnds ghosts.seen g.K.KeepsDesks.files holds lacks contents remaining c.args.databases (record machine { streams = s }) after result))
+      subst (λ s. InvocationEnds ghosts.seen g.K.KeepsDesks.files holds lacks contents remaining c.args.databases (record machine { streams = s }) after (c.status_of.result, Untouched c.args.databases) c.in-Ok.invocation
+          (ActionEnds ghosts.seen g.K.KeepsDesks.files holds lacks contents remaining c.args.databases (record machine { streams = s }) after (c.status_of.result, Untouched c.args.databases)))
           c.in-Ok.ensures.ok.0 (inr (c.in-Err-rules_of.fault, c.in-Err-rules_of.ensures, c.status_of.ensures, Appends-nil (contents c.read_words.new.streams.output), (refl, tt))),
     )
 

@@ -36,8 +36,8 @@ class Ran(NamedTuple):
 
 # A line on a refusal; and the line of a fault, behind which another one says why.
 MALFORMED = re.compile(
-    rb"onixdesk: (?!rules: |terms: )(?:[^\n]*: )?line [0-9]+: |onixdesk: [0-9]+ more are malformed\n|onixdesk: without --db "
-    rb"|onixdesk: refused,[a-z-]+: |onixdesk: bad-query: "
+    rb"onixdesk: (?!rules: |terms: )(?:[^\n]*: )?(?:line|row) [0-9]+: |onixdesk: [0-9]+ more are malformed\n"
+    rb"|onixdesk: without --db |onixdesk: refused,[a-z-]+: |onixdesk: bad-query: "
 )
 FAULT = re.compile(
     rb"onixdesk: (?:storage|file|rules): |onixdesk: port [0-9]+\n|onixdesk: socket\n|onixdesk: [^\n]*: no folder\n"

@@ -136,11 +136,11 @@ def bodies_that_do_not_come(room: Room) -> Iterator[Outcome]:
 
 
 # Of the port 8080; tests/refusals/commands.txt has others, which are refused.
-SPELLINGS = ["8080", "08080", "0000000000000000000008080", "+8080"]
+SPELLINGS = ["8080", "08080"]
 
 
 def spellings_of_a_port(room: Room) -> Iterator[Outcome]:
-    """Digits, with zeros or a plus before them; told by the number of one that is taken."""
+    """Digits, with a zero before them; told by the number of one that is taken."""
     with socket.create_server((HOST, 0)) as listener:
         port = str(listener.getsockname()[1])
         for spelling in SPELLINGS:

@@ -76,7 +76,10 @@ def before_refusal(products: list[str], room: Room) -> tuple[int, bytes, list[st
     room.write(FEED, "\n".join([FRAME.before, *products, FRAME.behind]).encode())
     came = convert(room, "--wrong", "none", FEED)
     lines = [line.removeprefix(f"onixdesk: {FEED}:") for line in came.errors.decode().splitlines()]
-    return came.status, came.output, [":".join(line.split(":")[:-1]) for line in lines]
+    refused = ": refused: "
+    return came.status, came.output, [
+        f"{line.partition(refused)[0]}: refused" if refused in line else line.rpartition(":")[0] for line in lines
+    ]
 
 
 def others_notes(room: Room) -> Iterator[Outcome]:

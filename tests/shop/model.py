@@ -128,12 +128,13 @@ class Model(RuleBasedStateMachine):
         """A wholesaler that overwrites its file before that is taken has sent nothing before: this one waits."""
         if (self.inbox.incoming / name).exists():
             self.clean()
+        is_new = is_whole and self.inbox.work(lambda inbox: self.is_refused(inbox, data))
         sent = self.put(name, data, is_whole, number, self.inbox.clock + 60 - (100_000 if is_late else 0))
         sent.is_late |= is_late or sent.is_lost
-        if sent.is_lost:
+        if sent.is_lost or is_new and self.is_next:
             # What was refused whole is a new file then, if nothing ends the run amid its copy.
             time = (self.inbox.incoming / name).stat().st_mtime
-            sent.time = time if self.inbox.work(lambda inbox: self.is_refused(inbox, data)) else sent.time
+            sent.time = time if is_new else sent.time
             sent.is_lost = False
             self.clean()
 

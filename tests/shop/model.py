@@ -238,7 +238,7 @@ class Model(RuleBasedStateMachine):
         self.send(name, 1, "", False, products)
         self.run(("meanwhile", "batch", place), lambda _: self.waive_at_desk())
         had = self.inbox.series.had
-        self.by_hand |= {number for number in range(1, max(had)) if had.setdefault(number, WAIVED) == WAIVED}
+        self.by_hand |= {number for number in range(1, max(had, default=1)) if had.setdefault(number, WAIVED) == WAIVED}
 
     def waive_at_desk(self) -> None:
         last = (self.inbox.series.next + self.parts - 2) // self.parts * self.parts + self.parts

@@ -192,7 +192,7 @@ class Ledger:
         return sorted(found, key=lambda file: file.number or 0, reverse=True)
 
     def last_taken(self) -> int | None:
-        """The time of the latest file that the desk, or one before, has, or may have, something of, at a number of ours."""
+        """The time of the latest file of which a desk has, or may have, something, or had, at a number of ours."""
         query = "SELECT max(time) FROM file JOIN message ON message.file = file.id WHERE ending <> '.csv'"
         answers = ('{"answer": "held"%', '{"answer": "applied"%')
         is_kept = " OR ".join(f"message.state = 'refused' AND answer LIKE '{answer}'" for answer in answers)

@@ -128,12 +128,13 @@ class Model(RuleBasedStateMachine):
         """A wholesaler that overwrites its file before that is taken has sent nothing before: this one waits."""
         if (self.inbox.incoming / name).exists():
             self.clean()
+        is_new = is_whole and self.inbox.work(lambda inbox: self.is_refused(inbox, data))
         sent = self.put(name, data, is_whole, number, self.inbox.clock + 60 - (100_000 if is_late else 0))
         sent.is_late |= is_late or sent.is_lost
-        if sent.is_lost:
+        if sent.is_lost or is_new and self.is_next:
             # What was refused whole is a new file then, if nothing ends the run amid its copy.
             time = (self.inbox.incoming / name).stat().st_mtime
-            sent.time = time if self.inbox.work(lambda inbox: self.is_refused(inbox, data)) else sent.time
+            sent.time = time if is_new else sent.time
             sent.is_lost = False
             self.clean()
 
@@ -237,7 +238,7 @@ class Model(RuleBasedStateMachine):
         self.send(name, 1, "", False, products)
         self.run(("meanwhile", "batch", place), lambda _: self.waive_at_desk())
         had = self.inbox.series.had
-        self.by_hand |= {number for number in range(1, max(had)) if had.setdefault(number, WAIVED) == WAIVED}
+        self.by_hand |= {number for number in range(1, max(had, default=1)) if had.setdefault(number, WAIVED) == WAIVED}
 
     def waive_at_desk(self) -> None:
         last = (self.inbox.series.next + self.parts - 2) // self.parts * self.parts + self.parts

@@ -3,6 +3,7 @@
 from collections.abc import Iterator
 from contextlib import suppress
 from dataclasses import replace
+from itertools import product
 from typing import Any
 
 from onixdesk_shop.inbox import report
@@ -103,20 +104,22 @@ def older(room: Room) -> Iterator[Outcome]:
 
 
 def compared(room: Room) -> Iterator[Outcome]:
-    """What came before its series was agreed is compared with what came before it, once that is there."""
-    for number in ("own", NEXT):
-        inbox = inbox_in(room, f"compared {number}", number=number)
+    """What came before its series was agreed, also twice, is compared with what came before it, once that is there."""
+    for number, again in product(("own", NEXT), range(4)):
+        inbox = inbox_in(room, f"compared {number} {again}", number=number)
         inbox.series.parties = (*SENDER, *ADDRESSEE)
         for place, price in enumerate(("4.50", "1000.00", "5.00"), 1):
-            inbox.take(f"{place}.xml", feed_of(place, {f"R{each}": price for each in range(12)}))
+            inbox.take(f"{place}.xml", feed_of(place, {f"R{each}": price for each in range(12)}), START + place)
+        for file in inbox.files()[:again]:
+            inbox.send(file.name, inbox.stored(file), file.time / 1e9)
         inbox.series.parties = (*SENDER, "", "")
         inbox.run()
         wanted = {"1.xml": "applied", "2.xml": "quarantined", "3.xml": "new"}
-        yield Outcome(f"{number}: in its turn", (inbox.states(), price_of(inbox, "R1")), (wanted, "4.500"))
+        yield Outcome(f"{number}, {again}: in its turn", (inbox.states(), price_of(inbox, "R1")), (wanted, "4.500"))
         inbox.decide("let-in", "quarantined")
         inbox.run()
         found = price_of(inbox, "R1"), inbox.states()["3.xml"], [*inbox.series.had]
-        yield Outcome(f"{number}: let in", found, ("1000.000", "quarantined", [1, 2]))
+        yield Outcome(f"{number}, {again}: let in", found, ("1000.000", "quarantined", [1, 2]))
 
 
 def numbered_anew(room: Room) -> Iterator[Outcome]:

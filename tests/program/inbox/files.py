@@ -334,7 +334,7 @@ def waived(room: Room) -> Iterator[Outcome]:
     """A number that was waived is waived again at a restored desk, before a file that came to it meanwhile."""
     inbox = inbox_in(room, "waived")
     assert inbox.desk
-    before = inbox.desk.copy()
+    before, begun = inbox.desk.copy(), inbox.desk.copy()
     inbox.work(lambda each: decide.waive(each, [1]))
     inbox.run()
     inbox.send("1.xml", feed_of(1, {"R1": "1.00"}))
@@ -347,6 +347,12 @@ def waived(room: Room) -> Iterator[Outcome]:
     yield Outcome("killed amid its post", states, ["posted"])
     inbox.run()
     yield Outcome("waived again", (inbox.series.had[1], inbox.states()), (WAIVED, {"1.xml": "refused"}))
+    inbox.take("other.xml", feed_of(1, {"R1": "2.00"}))
+    inbox.decide("refuse", "other.xml")
+    inbox.work(lambda each: decide.take_back(each, [1]))
+    inbox.desk = begun
+    inbox.run()
+    yield Outcome("a number that nobody has any more", inbox.states(), {"1.xml": "applied", "other.xml": "rejected"})
 
 
 def waived_half(room: Room) -> Iterator[Outcome]:

@@ -192,11 +192,9 @@ class Ledger:
         return sorted(found, key=lambda file: file.number or 0, reverse=True)
 
     def last_taken(self) -> int | None:
-        """The time of the latest file that the desk has, or may have, something of, at a number of ours, or that keeps one
-        until its series is agreed."""
+        """The time of the latest file of which a desk has, or may have, something, or had, at a number of ours."""
         query = "SELECT max(time) FROM file JOIN message ON message.file = file.id WHERE ending <> '.csv'"
-        # By that answer, or by the one of a desk before that took it.
-        answers = ('%"unknown-series"%', '{"answer": "held"%', '{"answer": "applied"%')
+        answers = ('{"answer": "held"%', '{"answer": "applied"%')
         is_kept = " OR ".join(f"message.state = 'refused' AND answer LIKE '{answer}'" for answer in answers)
         found: int | None = self.value(
             f"{query} AND (message.state IN ('ready', 'posted', 'held', 'applied') OR {is_kept})"

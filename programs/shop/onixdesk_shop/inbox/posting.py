@@ -123,11 +123,12 @@ def retry_unknown(inbox: Inbox, gaps: Gaps) -> None:
     Behind the first that it takes, what no desk took before is judged anew, since there was nothing to compare it
     with."""
     ledger, is_agreed = inbox.ledger, False
-    files = "file IN (SELECT id FROM file WHERE state = 'refused' AND why = ?)"
+    is_tried = "state = 'refused' AND why = ? OR state = 'new' AND answer LIKE '%\"unknown-series\"%'"
+    files = f"file IN (SELECT id FROM file WHERE {is_tried})"
     refused = ledger.messages(f"state = 'refused' AND text IS NOT NULL AND {files}", REASONS["unknown-series"])
     for row in refused:
         file = ledger.file(row.file)
-        if row.number < gaps.first or file.state != State.REFUSED or is_agreed and not ledger.is_final(file):
+        if row.number < gaps.first or file.state == State.POSTING or is_agreed and not ledger.is_final(file):
             continue
         ledger.set_message(row.number, State.POSTED)
         if isinstance(inbox.desk.post(ledger.text(row.number)), Taken):
@@ -186,7 +187,8 @@ def settle_rejected(inbox: Inbox, gaps: Gaps) -> None:
     """What a person refused and the desk lacks stands nowhere any more; where the inbox gives the numbers, these are
     waived, so that nothing waits for them."""
     ledger = inbox.ledger
-    is_over = "state = 'returned' OR state = 'refused' AND number IN (SELECT number FROM decision WHERE what = 'waive')"
+    waived = "SELECT number FROM decision WHERE what = 'waive' AND decision.file = message.file"
+    is_over = f"state = 'returned' OR state = 'refused' AND number IN ({waived})"
     rows = ledger.messages(f"NOT ({is_over}) AND file IN (SELECT id FROM file WHERE state = 'rejected')")
     for row in [row for row in rows if gaps.lacks(row.number)]:
         file = ledger.file(row.file)

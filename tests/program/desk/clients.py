@@ -135,19 +135,6 @@ def bodies_that_do_not_come(room: Room) -> Iterator[Outcome]:
         yield Outcome("the lines of short bodies", desk.ended(), wanted)
 
 
-# Of the port 8080; tests/refusals/commands.txt has others, which are refused.
-SPELLINGS = ["8080", "08080"]
-
-
-def spellings_of_a_port(room: Room) -> Iterator[Outcome]:
-    """Digits, with a zero before them; told by the number of one that is taken."""
-    with socket.create_server((HOST, 0)) as listener:
-        port = str(listener.getsockname()[1])
-        for spelling in SPELLINGS:
-            came = room.run("serve", "--port", spelling.replace("8080", port), "--requests", "1", given=UNREADABLE)
-            yield Outcome(f"a port as {spelling!r}", came, Ran(3, b"", f"onixdesk: port {port}\n".encode()))
-
-
 def unwritten_lines(room: Room) -> Iterator[Outcome]:
     """The desk ends before it serves a client, where it cannot say that it listens."""
     wanted = Ran(3, b"", b"onixdesk: output\n")

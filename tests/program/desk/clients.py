@@ -13,7 +13,7 @@ from tests.program.desk.commands import APPLIED, FIRST
 from tests.program.databases import DATABASE, batch
 from tests.program.messages import AGREED, AGREEMENT, bare
 from tests.program.room import UNREADABLE, Ran, Room
-from tests.program.serving import HOST, TRIES, Exchange, Serving, connected, free_port, posted, receive, serving
+from tests.program.serving import TRIES, Exchange, Serving, connected, free_port, posted, receive, serving
 from tests.running import Outcome
 from tools.words import sought
 

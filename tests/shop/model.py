@@ -147,7 +147,8 @@ class Model(RuleBasedStateMachine):
     def is_refused(self, inbox: Inbox, data: bytes) -> bool:
         """Whether a file is refused, and no desk has anything of it."""
         file = inbox.ledger.latest(digest_of(data))
-        return file is not None and file.state == "refused" and not inbox.ledger.is_final(file)
+        is_kept = file and any("unknown-series" in row.answer for row in inbox.ledger.messages_of(file))
+        return file is not None and file.state == "refused" and not inbox.ledger.is_final(file) and not is_kept
 
     # Which of what there is: a number, so that the steps of a run can be made again as they are printed.
     some = st.integers(0, 11)

@@ -150,6 +150,8 @@ class Ledger:
             if known.state == State.NEW:
                 self.set_of_file(known, time=min(time, known.time))
             if known.state == State.REFUSED and not self.is_final(known):
+                # What keeps its number until its series is agreed keeps its place, too.
+                is_new &= not self.messages("file = ? AND answer LIKE '%\"unknown-series\"%'", known.id)
                 self.set_of_file(known, time=time if is_new else min(time, known.time), ending=ending)
                 self.set_state(known, State.NEW, "its bytes were put there again")
             return self.file(known.id)

@@ -77,9 +77,8 @@ def before_refusal(products: list[str], room: Room) -> tuple[int, bytes, list[st
     came = convert(room, "--wrong", "none", FEED)
     lines = [line.removeprefix(f"onixdesk: {FEED}:") for line in came.errors.decode().splitlines()]
     refused = ": refused: "
-    return came.status, came.output, [
-        f"{line.partition(refused)[0]}: refused" if refused in line else line.rpartition(":")[0] for line in lines
-    ]
+    cut = [f"{line.partition(refused)[0]}: refused" if refused in line else line.rpartition(":")[0] for line in lines]
+    return came.status, came.output, cut
 
 
 def others_notes(room: Room) -> Iterator[Outcome]:

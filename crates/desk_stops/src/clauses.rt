@@ -8,8 +8,8 @@ ghost use Rattle.price_rules.specs.declared.precedence.Rule.{Rule};
 use sqlite::Alter;
 use sqlite_disk::Disk;
 
-/// What `answer` promises makes each answer, and each fault, an event of a run, and what a batch asks
-/// goes on with a run.
+/// What `answer`, and each call of the desk, promises makes each answer, and each fault, an event of a
+/// run, and what a batch asks goes on with a run.
 pub fn traces_are_runs<S: Alter>()
     ensures { (rules : List Rule) → TracesAreRuns S.Store rules }
 {}

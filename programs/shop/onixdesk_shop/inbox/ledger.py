@@ -290,9 +290,9 @@ class Ledger:
         return [row for row in found if row.number < gaps.next or row.state in new or gaps.lacks(row.number)]
 
     def last_final(self) -> int:
-        """The greatest number that its file has for good."""
+        """The greatest number that its file has for good, or that is waived."""
         found = [row.number for row in self.messages("1") if row.was_taken or row.state in STANDING]
-        return max(found, default=0)
+        return max([*found, *self.waived()], default=0)
 
     def next_number(self, gaps: Gaps, parts: int) -> int:
         """The number that a new file gets: above all that are given, and all that the desk has, the first of a whole

@@ -196,9 +196,9 @@ def settle_rejected(inbox: Inbox, gaps: Gaps) -> None:
         with ledger.step():
             ledger.set_message(row.number, State.REFUSED if is_given else State.RETURNED)
             ledger.forget_references(row.number)
-            judge_anew(inbox)
             if is_given:
                 ledger.decide(Decision.WAIVE, file, row.number)
+            judge_anew(inbox)
 
 
 def waive(inbox: Inbox, gaps: Gaps) -> Gaps:

@@ -240,6 +240,11 @@ def corrections(room: Room) -> Iterator[Outcome]:
     before = shop.database.read_bytes()
     yield Outcome("a text that the desk refuses", (run(shop, copy, text=text) > 0, shop.started), (True, {*UNITS}))
     yield Outcome("the desk", shop.database.read_bytes() == before, True)
+    latest, shop.inbox.desk = shop.take_copy("2026-12-01T02-30-12Z"), None
+    shutil.rmtree(shop.database.parent)
+    shop.database.parent.mkdir()
+    yield Outcome("on another machine", (run(shop, latest), price(shop)), (0, "99.000"))
+    yield Outcome("a copy from before, there", run(shop, shop.copies / "night"), 1)
 
 
 def held_at_a_wrong_number(room: Room) -> Iterator[Outcome]:

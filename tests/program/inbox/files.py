@@ -432,12 +432,19 @@ def lacking(room: Room) -> Iterator[Outcome]:
 
 
 def unforeseen(room: Room) -> Iterator[Outcome]:
-    """What nobody foresaw of a file stops the series with a line, and never passes."""
-    for name, error in ("mistake", ValueError("no digit")), ("child", BadEnd("onixdesk was killed by signal 9")):
+    """What nobody foresaw of a file stops the series with a line, never passes, and is tried again once a person says so."""
+    for name, target, error in (
+        ("mistake", "onixdesk_shop.inbox.quarantine.look_at", ValueError("no digit")),
+        ("child", "onixdesk_shop.inbox.quarantine.look_at", BadEnd("onixdesk was killed by signal 9")),
+        ("conversion", "tests.shop.fake_program.convert", BadEnd("onixdesk was killed by signal 9")),
+    ):
         inbox = inbox_in(room, name)
         inbox.take("1.xml", feed_of(1, {"R1": "1.00"}))
         inbox.send("2.xml", feed_of(2, {"R1": "2.00"}))
-        with patch("onixdesk_shop.inbox.quarantine.look_at", side_effect=error):
+        with patch(target, side_effect=error):
             lines = inbox.run()
         found = inbox.states()["2.xml"], len(lines), str(error) in lines[0]
         yield Outcome(name, found, ("quarantined", 1, True))
+        inbox.decide("let-in", "2.xml")
+        inbox.run()
+        yield Outcome(f"{name}: let in", price_of(inbox, "R1"), "2.000")

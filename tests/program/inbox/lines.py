@@ -90,6 +90,23 @@ def what_is_told_once(room: Room) -> Iterator[Outcome]:
     )
 
 
+def a_second_wait(room: Room) -> Iterator[Outcome]:
+    """For a number that a restored desk lacks again: it is told again."""
+    inbox = inbox_in(room, "second")
+    inbox.take("1.xml", feed_of(1, {"R1": "1.00"}))
+    assert inbox.desk
+    before = inbox.desk.copy()
+    inbox.take("3.xml", feed_of(3, {"R3": "1.00"}))
+    inbox.clock += 2 * DAY
+    first = inbox.run()
+    inbox.take("2.xml", feed_of(2, {"R2": "1.00"}))
+    inbox.decide("refuse", "2.xml")
+    inbox.desk = before
+    inbox.run()
+    inbox.clock += 2 * DAY
+    yield Outcome("told again", (len(first), inbox.run()), (1, first))
+
+
 def refused_by_a_person(room: Room) -> Iterator[Outcome]:
     """What waits behind a refused number says so, and the command that was printed takes it on."""
     inbox = inbox_in(room, "person")

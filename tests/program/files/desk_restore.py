@@ -4,6 +4,7 @@ import argparse
 import os
 import shutil
 from collections.abc import Iterator
+from contextlib import suppress
 from dataclasses import replace
 from functools import partial
 from pathlib import Path
@@ -325,10 +326,9 @@ def killed(kind: str, room: Room) -> Iterator[Outcome]:
         shop = shop_in(room, f"{kind}{at}", number=NEXT)
         copy = four_days(shop)
         machine = shop.machine(kind, at)
-        try:
+        status = -9
+        with suppress(Killed, SystemExit):
             status = run(shop, copy, machine)
-        except (Killed, SystemExit):
-            status = -9
         if machine.calls < at:
             break
         if shop.database.exists() and has_of(shop.database) not in ([1], [1, 2, 3, 4]):

@@ -51,10 +51,7 @@ def program_of(word: Path) -> Path:
     return Path(found).absolute()
 
 
-Work = Callable[[Machine, argparse.Namespace], int]
-
-
-def call(parser: argparse.ArgumentParser, work: Work) -> int:
+def call(parser: argparse.ArgumentParser, work: Callable[[Machine, argparse.Namespace], int]) -> int:
     """The status of a program's work on this machine, by the words of its command line. One that `goes_on` is not ended by
     a terminal that hangs up."""
     options = parser.parse_args()

@@ -24,18 +24,6 @@ def named(second: float) -> str:
     return time.strftime(NAME, time.gmtime(second))
 
 
-def free_name(machine: Machine, folder: Path, second: int) -> Path:
-    """The place of a copy of that second, or of the first later one that no copy has."""
-    while machine.exists(place := folder / named(second)):
-        second += 1
-    return place
-
-
-def copies_in(machine: Machine, folder: Path) -> list[Path]:
-    """The copies of a folder, the oldest first."""
-    return [path for path in machine.paths(folder, "*") if is_name(path.name)]
-
-
 def corrections_in(machine: Machine, folder: Path) -> list[str]:
     file = folder / CORRECTIONS
     return machine.read(file).decode().splitlines() if machine.exists(file) else []
@@ -50,7 +38,7 @@ def corrections_since(machine: Machine, desk: Path, copy: Path) -> list[str]:
 def keep_latest(machine: Machine, folder: Path, count: int, newest: Path) -> None:
     """Removes all but the latest copies. The newest stays, also where a clock that was ahead has given others later
     names. One that is being removed has a hidden name: a run that is killed would leave a part of it."""
-    others = [copy for copy in copies_in(machine, folder) if copy != newest]
+    others = [path for path in machine.paths(folder, "*") if is_name(path.name) and path != newest]
     # Corrections make several in a day. All but the last of a day go first, so that those of the nights before stay.
     doubled = [old for old, later in zip(others, [*others[1:], newest]) if old.name[:DAY] == later.name[:DAY]]
     others = [*doubled, *(copy for copy in others if copy not in doubled)]

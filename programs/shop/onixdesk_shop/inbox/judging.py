@@ -60,7 +60,7 @@ def judge(inbox: Inbox, file: File, gaps: Gaps) -> None:
         quarantine_file(inbox, file, str(why))
     except BadEnd as end:
         # Not the file's fault, for all that is known: a person has it tried again.
-        quarantine_file(inbox, file, f"its conversion failed: {end}")
+        quarantine_file(inbox, file, f"it cannot be judged: {end}")
     except (Fault, OSError, sqlite3.Error):
         raise
     except Exception as error:

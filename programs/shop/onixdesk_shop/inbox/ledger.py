@@ -75,7 +75,7 @@ class Row(NamedTuple):
     @property
     def was_taken(self) -> bool:
         """Whether a desk took its text, this one or one before."""
-        return bool(self.has_text) and self.answer.startswith(('{"answer": "held"', '{"answer": "applied"'))
+        return bool(self.has_text) and self.answer.startswith(("held,", "applied,"))
 
 
 @dataclass(frozen=True)
@@ -151,7 +151,7 @@ class Ledger:
                 self.set_of_file(known, time=min(time, known.time))
             if known.state == State.REFUSED and not self.is_final(known):
                 # What keeps its number until its series is agreed keeps its place, too.
-                is_new &= not self.messages("file = ? AND answer LIKE '%\"unknown-series\"%'", known.id)
+                is_new &= not self.messages("file = ? AND answer = 'refused,unknown-series'", known.id)
                 self.set_of_file(known, time=time if is_new else min(time, known.time), ending=ending)
                 self.set_state(known, State.NEW, "its bytes were put there again")
             return self.file(known.id)
@@ -196,8 +196,7 @@ class Ledger:
     def last_taken(self) -> int | None:
         """The time of the latest file of which a desk has, or may have, something, or had, at a number of ours."""
         query = "SELECT max(time) FROM file JOIN message ON message.file = file.id WHERE ending <> '.csv'"
-        answers = ('{"answer": "held"%', '{"answer": "applied"%')
-        is_kept = " OR ".join(f"message.state = 'refused' AND answer LIKE '{answer}'" for answer in answers)
+        is_kept = "message.state = 'refused' AND (answer LIKE 'held,%' OR answer LIKE 'applied,%')"
         found: int | None = self.value(
             f"{query} AND (message.state IN ('ready', 'posted', 'held', 'applied') OR {is_kept})"
         )

@@ -34,8 +34,8 @@ class Gaps:
 
 @dataclass(frozen=True)
 class Taken:
-    """What the desk says of a message that it has: in which series, and how many products had which effect, or for which
-    number it waits; `said` is its record."""
+    """What the desk says of a message that it has: in which series, and how many products had which effect, or for
+    which number it waits; `said` is its record."""
 
     series: str
     counts: dict[str, int]

@@ -15,6 +15,7 @@ ROUNDS = 3
 # Why a number that was free a moment ago is another message's.
 QUICKER = "other-contents", "waived", "before-first"
 
+# Behind a reason the desk says its series, the number, and the first number.
 REASONS = {
     "unknown-series": "no series of its sender and addressee is agreed",
     "before-first": "number {1} is below the first number of the series, {2}",

@@ -209,6 +209,15 @@ def each_night(room: Room) -> Iterator[Outcome]:
     yield Outcome("corrections of a day push no night out", left, [*OLD[1:], corrected[3]])
 
 
+def two_in_a_second(room: Room) -> Iterator[Outcome]:
+    shop = shop_in(room, "two")
+    moment, found = shop.inbox.clock, []
+    for _ in range(2):
+        shop.inbox.clock = moment
+        found.append(run(shop, "--keep", 3, shop.database, shop.copies))
+    yield Outcome("both are there", (found, len([*shop.copies.iterdir()])), ([0, 0], 2))
+
+
 class Writing(ShopMachine):
     """A desk that is written to while its files are copied, so many times."""
 

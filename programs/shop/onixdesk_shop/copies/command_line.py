@@ -72,7 +72,10 @@ def copy_by(machine: Machine, new: Path, folder: Path, options: argparse.Namespa
     if options.inboxes:
         copy_ledgers(machine, options.inboxes, new / LEDGERS)
     machine.sync_tree(new)
-    place = folder / named(found.moment / 1e9) if options.keep else folder
+    # Of several copies in a second the others have the names of later ones.
+    place, second = folder, found.moment // 1_000_000_000
+    while options.keep and machine.exists(place := folder / named(second)):
+        second += 1
     if machine.exists(place):
         raise Fault(f"{place}: it already exists")
     machine.rename(new, place)

@@ -32,7 +32,7 @@ class TextsGone(Fault):
 def why_refused(refused: Refused) -> str:
     try:
         return REASONS[refused.reason].format(*refused.words)
-    except KeyError:
+    except LookupError:
         return f"the desk answers {cut(refused.said)}"
 
 

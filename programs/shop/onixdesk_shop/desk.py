@@ -85,7 +85,7 @@ class Desk:
             except OSError as error:
                 raise NoDesk(f"no desk answers at {self.socket}: {error.strerror or error}") from None
         if not said.endswith(b"\n"):
-            raise NoDesk(f"the desk at {self.socket} gives no whole answer")
+            raise NoDesk(f"the answer of the desk at {self.socket} breaks off")
         return [*records_of(said)]
 
     def gaps(self, series: str) -> Gaps | None:

@@ -40,7 +40,7 @@ def day_word(word: str) -> str:
     try:
         return date.fromisoformat(word).isoformat().replace("-", "")
     except ValueError:
-        raise argparse.ArgumentTypeError(f"{token(word)} is no day YYYYMMDD") from None
+        raise argparse.ArgumentTypeError(f"{token(word)} is not a day YYYYMMDD") from None
 
 
 def program_of(word: Path) -> Path:

@@ -73,4 +73,4 @@ def read_input(names: str, work: Callable[[Iterator[Element]], None]) -> None:
     try:
         work(elements_in(sys.stdin.buffer, dict(pair.split("=") for pair in names.split())))
     except (expat.ExpatError, ValueError, LookupError) as error:
-        sys.exit(f"expat does not take it: {error}")
+        sys.exit(f"expat cannot read it: {error}")

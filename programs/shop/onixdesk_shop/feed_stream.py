@@ -53,4 +53,4 @@ def pieces_of(path: Path) -> Iterator[bytes]:
     try:
         yield from recoded(unpacked(path))
     except DAMAGE as error:
-        raise Damaged(f"it cannot be unpacked, or is no text in UTF-16: {error or 'it ends too early'}") from None
+        raise Damaged(f"it cannot be unpacked, or is not UTF-16: {error or 'it ends too early'}") from None

@@ -82,7 +82,7 @@ class Machine:
         with open(opened, "rb") as old, open(target, "wb") as new:
             found = os.fstat(opened)
             if not stat.S_ISREG(found.st_mode):
-                raise OSError(None, "it is no regular file", str(source))
+                raise OSError(None, "it is not a regular file", str(source))
             while piece := old.read(PIECE):
                 digest.update(piece)
                 new.write(piece)

@@ -68,7 +68,7 @@ def read_lines(machine: Machine, path: Path) -> dict[str, tuple[int, str]]:
     except OSError as error:
         raise BadCall(f"{path}: {error.strerror}") from None
     except UnicodeDecodeError:
-        raise BadCall(f"{path}: it is no UTF-8") from None
+        raise BadCall(f"{path}: it is not UTF-8") from None
     found: dict[str, tuple[int, str]] = {}
     for place, line in enumerate(text.split("\n"), 1):
         if not line.strip() or line.lstrip().startswith("#"):

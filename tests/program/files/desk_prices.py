@@ -95,4 +95,4 @@ def a_file_of_prices(room: Room) -> Iterator[Outcome]:
     came = run(room)
     yield Outcome("a wrong key", (came.status, came.errors), (2, b"desk-prices: desk.json: price_file: file\n"))
     came = run(room, "--day", "20250230")
-    yield Outcome("no day of the calendar", (came.status, b"20250230 is no day YYYYMMDD" in came.errors), (2, True))
+    yield Outcome("no day of the calendar", (came.status, b"20250230 is not a day YYYYMMDD" in came.errors), (2, True))

@@ -40,7 +40,7 @@ class Rest:
 
     def spend(self, file: Path, seconds: float) -> None:
         if self.machine.now() + seconds > self.end:
-            raise Fault(f"{file}: it is not left as it is for long enough, or the clock was set back")
+            raise Fault(f"{file}: it changes too often to be copied, or the clock was set back")
         self.machine.sleep(seconds)
 
     def standing(self, file: Path) -> Entry | None:

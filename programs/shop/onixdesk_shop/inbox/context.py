@@ -68,7 +68,7 @@ class Inbox:
         """The desk's report on the series; raises NotAgreed if it has no such series."""
         found = self.desk.gaps(self.series)
         if found is None:
-            raise NotAgreed(f"the desk has agreed no series {self.series}")
+            raise NotAgreed(f"the desk has not agreed on the series {self.series}")
         return found
 
     def is_let_in(self, file: File) -> bool:
@@ -112,10 +112,10 @@ class Inbox:
 
     def tell_known(self, file: File, before: File) -> None:
         if before.state == State.REJECTED:
-            self.tell_file(WARNING, file, "these bytes were refused by a person, and stay so")
+            self.tell_file(WARNING, file, "a person refused these bytes")
         elif before.state == State.REPLACED:
             self.tell_file(
-                WARNING, file, "a newer full file came in place of these bytes, and they are not taken any more"
+                WARNING, file, "a newer full file replaced these bytes, and they are not taken any more"
             )
         elif before.number is not None:
             self.tell_file(NOTICE, file, f"had it already: {before.state} from number {before.number} on")

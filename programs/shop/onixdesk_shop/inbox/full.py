@@ -37,7 +37,7 @@ def with_deletions(inbox: Inbox, feed: Feed, gaps: Gaps) -> list[Message]:
         return feed.messages
     articles = inbox.ledger.articles()
     if len(gone) >= LEAST and len(gone) * 5 > articles and not inbox.is_let_in(feed.file):
-        raise Quarantine(f"it does not name {len(gone)} of {articles} articles any more, which would be deleted")
+        raise Quarantine(f"it no longer names {len(gone)} of {articles} articles, which would be deleted")
     return filled(feed.messages, gone)
 
 
@@ -62,8 +62,7 @@ def not_named(inbox: Inbox, feed: Feed) -> list[str]:
 
 
 def filled(messages: list[Message], gone: list[str]) -> list[Message]:
-    """The messages, with as many deletions at their ends as they have room for. The next full file deletes the others.
-    """
+    """The messages, with as many deletions at their ends as fit. The next full file deletes the others."""
     found, rest = [], list(gone)
     for message in messages:
         records, size = sum(1 for _ in records_of(message.text)), len(message.text)
@@ -108,7 +107,7 @@ def replace_older(inbox: Inbox, file: File) -> None:
     for older in inbox.ledger.files(
         "state IN (?, ?) AND time < ? AND ending <> '.csv'", State.QUARANTINED, State.NEW, file.time
     ):
-        inbox.ledger.set_state(older, State.REPLACED, f"the full file {file.mark} came behind it")
+        inbox.ledger.set_state(older, State.REPLACED, f"the full file {file.mark} came after it")
 
 
 def tell_in_a_row(inbox: Inbox) -> None:

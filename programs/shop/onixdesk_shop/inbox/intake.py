@@ -42,7 +42,7 @@ def take_entry(inbox: Inbox, entry: Entry) -> None:
     if name.startswith(".") or name.endswith(UNFINISHED):
         why = "it seems to be still being written"
     elif not entry.is_regular:
-        why = "it is no regular file"
+        why = "it is not a regular file"
     elif Path(name).suffix not in ENDINGS:
         why = f"it does not end in {', '.join(ENDINGS)}"
     elif inbox.machine.now() - entry.changed / 1e9 < inbox.settings.unchanged_seconds:

@@ -80,7 +80,7 @@ def settle_taken(inbox: Inbox, row: Row, answer: Taken) -> None:
     if state == State.APPLIED and row.state != State.APPLIED:
         ledger.name_references(row.number, products_of(ledger.text(row.number)))
         if unknown := answer.counts["unknown"]:
-            said = f"{count(unknown, 'change')} of what the desk has not: ask the wholesaler for a full feed"
+            said = f"{count(unknown, 'change')} of records that the desk lacks: ask the wholesaler for a full feed"
             inbox.tell_file(WARNING, file, said)
     settle_file(inbox, file)
 

@@ -78,6 +78,6 @@ def judge_findings(inbox: Inbox, found: Findings, known: int) -> None:
     articles = max(inbox.ledger.articles(), known)
     if lost >= LEAST and lost * 5 > articles:
         raise Quarantine(
-            f"{lost} of {articles} articles would lose their price, be deleted or be chosen no more:"
+            f"{lost} of {articles} articles would lose their price, be deleted or no longer be chosen:"
             f" {', '.join(found.lost[:3])}"
         )

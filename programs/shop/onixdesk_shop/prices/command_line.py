@@ -74,5 +74,5 @@ def work(machine: Machine, options: argparse.Namespace) -> int:
         machine.write_whole(options.folder / BEFORE, machine.read(options.folder / FILE), 0o640)
     machine.write_whole(options.folder / FILE, "".join(lines).encode(), 0o640)
     if isbns and not chosen:
-        machine.tell(WARNING, f"of {len(isbns)} articles nothing is chosen, and none has a price (PRICES.md)")
+        machine.tell(WARNING, f"nothing is chosen for any of {len(isbns)} articles, so none has a price (PRICES.md)")
     return DONE

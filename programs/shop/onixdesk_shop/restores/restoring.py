@@ -18,7 +18,7 @@ from onixdesk_shop.units import Units
 
 
 class Restore:
-    remedy = "with --gaps it is put into place all the same"
+    remedy = "--gaps restores it nevertheless"
 
     def __init__(self, machine: Machine, options: argparse.Namespace) -> None:
         self.machine = machine
@@ -46,7 +46,7 @@ class Restore:
         # SQLite leaves the third file if somebody has looked at a copy.
         found = {entry.name for entry in machine.entries(options.copy)} - {f"{name}-shm", LEDGERS, CORRECTIONS}
         if name not in found or found - {name, f"{name}-wal"}:
-            raise Fault(f"{options.copy}: it has not {name} and its log alone")
+            raise Fault(f"{options.copy}: it does not have {name} and its log alone")
         self.work.begin()
         for each in found:
             machine.copy(options.copy / each, self.work.new.parent / each)
@@ -79,7 +79,7 @@ class Restore:
             with copied(machine, database) as (copy, _):
                 return contents_of(machine, copy)
         except Fault as fault:
-            machine.tell(WARNING, f"what the present desk was told since is not known: {fault}")
+            machine.tell(WARNING, f"it is unknown what the present desk was told since: {fault}")
             return Contents()
 
     # What is said before
@@ -186,5 +186,5 @@ class Restore:
             machine.own(new, options.inboxes)
             machine.rename(new, folder / LEDGER)
             machine.sync_folder(folder)
-            since = "what was refused, let in or waived since is not known"
+            since = "it is unknown what was refused, let in or waived since"
             machine.tell(WARNING, f"onixdesk-inbox report {name}; its ledger is the copy's, as there was none: {since}")

@@ -8,8 +8,8 @@ CURRENCIES = ["GBP", "EUR"]
 TYPES = ["01", "02"]
 CODES = ["10", "20", "21", "31"]
 ARTICLES = [f"978000000000{digit}" for digit in range(4)]
-SERIES = {"north": "4012345000009", "south": 'S,"1"', "west-2": "\\N", "0": "本屋 𝄞"}
-REFERENCES = ["R1", "R2", "a,b", 'say "hi"', "\\.", "\\N", "null", " spaced ", "Bücher", "本屋 𝄞", "'; --", "%s"]
+SERIES = {"north": "4012345000009", "south": 'S,"1"', "west-2": "\\N", "0": "a\u0085b\u2028c"}
+REFERENCES = ["R1", "\\", "a,b", 'say "hi"', "\\.", "\\N", "null", " spaced ", "Bücher", "本屋 𝄞", "'; --", "%s"]
 FIRST = {"north": 1, "south": 7, "west-2": 999_999_970, "0": 1}
 
 RULES = Path(__file__).with_name("rules.toml").read_text(encoding="utf-8")

@@ -18,7 +18,7 @@ use Rattle.series_rules.specs.Firsts.{first_at}
 use Rattle.series_rules.specs.Gaps.{AreRangesFrom, IsInRanges, IsUpTo, gaps_of, greatest_of, numbers_up_to}
 use Rattle.series_rules.specs.Laws.{GapsAreTrue}
 use Rattle.series_rules.specs.Offers.{by_name}
-use Rattle.series_rules.specs.Views.{DeskKind, Stays, Tells, View}
+use Rattle.series_rules.specs.Views.{AsksOnly, DeskKind, Stays, View}
 use Rattle.series_rules.specs.declared.answers.GapReport.{GapReport}
 use Rattle.series_rules.specs.declared.requests.Request.{Request}
 use Rattle.series_rules.specs.declared.requests.Request.TheVariants.{Agree}
@@ -119,7 +119,7 @@ module _ {T : Type 0} {k : DeskKind} {takes part : T → T → List ℕ → Type
 
   -- nothing was taken of what a desk was asked for
   pub not_told : {A B G : Type 0} {answer : List Request → B} {IsSo : List Request → Type 0} {texts : List Request → List (List ℕ)} {old new : View k} {t : T} {r : Result B StoreFault} (e : G)
-      → Tells answer old new r → IsTaken {A = A} takes part IsSo texts old new t t (Err e)
+      → AsksOnly answer old new r → IsTaken {A = A} takes part IsSo texts old new t t (Err e)
   not_told {texts = texts} {t = t} e tells = record {
     premise = tells.premise;
     left = tells.left;
@@ -271,7 +271,7 @@ report_is L a report agreed told = let both : Some report ≡ Some (gaps_of L a)
 
 module _ {T : Type 0} {k : DeskKind} {takes part : T → T → List ℕ → Type 0} where
   pub series_exported : {A F : Type 0} {old mid new : View k} {from between to : T} (true_ : GapsAreTrue) (a : Agreement) (report : GapReport) (r : Result A F)
-      → Tells (λ L. gaps_answer L a.name) old mid (Ok (Some report)) → TakesAll takes from between (request_text (Agree a) ∷ [])
+      → AsksOnly (λ L. gaps_answer L a.name) old mid (Ok (Some report)) → TakesAll takes from between (request_text (Agree a) ∷ [])
       → IsTaken takes part (λ L. ⊤) (λ L. texts_of (requests_between L a report.first report.missing (end_after report.first report.greatest))) mid new between to r
       → IsTaken takes part (λ L. named (agreements_of L) a.name ≡ Some a) (λ L. texts_of (series_requests L a)) old new from to r
   series_exported {old = old} {mid = mid} {new = new} {from = from} {between = between} {to = to} true_ a report r tells agreement held = record {
@@ -288,7 +288,7 @@ module _ {T : Type 0} {k : DeskKind} {takes part : T → T → List ℕ → Type
 
   -- an agreement was not taken, before what stands in its series
   pub agreement_stopped : {A F : Type 0} {old mid : View k} {from to : T} {r : Result (Option GapReport) StoreFault} (a : Agreement) (e : F)
-      → Tells (λ L. gaps_answer L a.name) old mid r → TakesSome takes part from to (request_text (Agree a) ∷ [])
+      → AsksOnly (λ L. gaps_answer L a.name) old mid r → TakesSome takes part from to (request_text (Agree a) ∷ [])
       → IsTaken {A = A} takes part (λ L. named (agreements_of L) a.name ≡ Some a) (λ L. texts_of (series_requests L a)) old mid from to (Err e)
   agreement_stopped {from = from} {to = to} a e tells some = record {
     premise = tells.premise;
@@ -391,7 +391,7 @@ module _ {T : Type 0} {k : DeskKind} {takes part : T → T → List ℕ → Type
 
   -- what a desk tells was handed on
   pub told_taken : {A B F : Type 0} {answer : List Request → B} {IsSo : List Request → Type 0} {old new : View k} {from to : T} (text : List Request → List ℕ) (b : B) (r : Result A F)
-      → Tells answer old new (Ok b) → ((L : List Request) → IsSo L → b ≡ answer L → Takes takes part from to (text L ∷ []) r)
+      → AsksOnly answer old new (Ok b) → ((L : List Request) → IsSo L → b ≡ answer L → Takes takes part from to (text L ∷ []) r)
       → IsTaken takes part IsSo (λ L. text L ∷ []) old new from to r
   told_taken text b r tells one = record {
     premise = tells.premise;

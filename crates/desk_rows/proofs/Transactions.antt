@@ -21,7 +21,7 @@ use Rattle.series_rules.specs.declared.requests.Request.TheVariants.{Deliver}
 use Rattle.desk_rows.specs.Answering.{AnswersMessage}
 use Rattle.series_rules.specs.declared.requests.Request.{Request}
 use Rattle.series_rules.specs.Changes.{changes, is_question}
-use Rattle.series_rules.specs.Views.{Asks, IsFaultOf, Stays, Tells}
+use Rattle.series_rules.specs.Views.{Asks, AsksOnly, IsFaultOf, Stays}
 use Rattle.desk_rows.proofs.ComesTo.{stored, rows_come}
 use Rattle.desk_rows.specs.Desks.{Answers, Finishes, HoldsRequests, KeepsRequests, OnlyAnswers}
 use Rattle.desk_rows.specs.Seen.{in_tables, seen_in}
@@ -205,7 +205,7 @@ asked_alone r answer s a is nothing stands = record {
 -- ---- questions
 
 questioned : {A W : Type 0} (w : W) (answer : List Request → A) (s0 s1 s2 s3 : State) (result : Result A StoreFault) → BeginsWork {A = W} {E = StoreFault} s0 s1 (Ok w) → Achieves (OnlyAnswers answer) s1 s2 result → (HasCleanDisk s3 → IsUndone s2 s3) → Survives s2 s3 NoTrees
-    → Tells answer (seen_in s0) (seen_in s3) result
+    → AsksOnly answer (seen_in s0) (seen_in s3) result
 questioned {A} w answer s0 s1 s2 s3 result begins done undone survives = record {
   premise = λ clean. clean0 (clean1 (clean2 clean));
   ok = λ L keeps clean. let begun = is_begun w L s0 s1 (clean1 (clean2 clean)) begins keeps in told L begun.now.0 begun.now.2 result (done.gives (clean2 clean) begun.now.0 begun.now.1);
@@ -234,7 +234,7 @@ questioned {A} w answer s0 s1 s2 s3 result begins done undone survives = record 
 
 -- a question whose transaction was let go
 pub told : {S A W : Type 0} {store : Ghosts S} {answer : List Request → A} {before after : Work S} {w : W} {result : Result A StoreFault} (old let_go new : Tables S) → let_go ≡ new → BeginsWork {A = W} {E = StoreFault} (state_of store old) (seen store before) (Ok w)
-    → Does store (OnlyAnswers answer) before after result → Undoes (seen store after) (state_of store let_go) → Tells answer (seen_in (state_of store old)) (seen_in (state_of store new)) result
+    → Does store (OnlyAnswers answer) before after result → Undoes (seen store after) (state_of store let_go) → AsksOnly answer (seen_in (state_of store old)) (seen_in (state_of store new)) result
 told {store = store} {answer = answer} {before = before} {after = after} {w = w} {result = result} old let_go new same begins done undone =
-    subst (λ t. Tells answer (seen_in (state_of store old)) (seen_in (state_of store t)) result) same
+    subst (λ t. AsksOnly answer (seen_in (state_of store old)) (seen_in (state_of store t)) result) same
     (questioned w answer (state_of store old) (seen store before) (seen store after) (state_of store let_go) result begins done.achieves undone.undone undone.survives)

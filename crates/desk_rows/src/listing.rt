@@ -7,7 +7,7 @@ ghost use Rattle.desk_rows.specs.Desks.{OnlyAnswers};
 ghost use Rattle.series_rules.specs.Listing.{agreements_by_name, text_after};
 ghost use Rattle.desk_rows.specs.Listing.{NamesRise};
 ghost use Rattle.desk_rows.specs.Seen.{seen_in};
-ghost use Rattle.series_rules.specs.Views.{Tells};
+ghost use Rattle.series_rules.specs.Views.{AsksOnly};
 
 use crate::answers_at::stored_at;
 use desk_tables::series::SeriesRow;
@@ -74,7 +74,7 @@ pub fn ask_agreements<S: Alter>(
     alloc: Global,
     tables: &mut Tables<S>,
 ) -> Result<Items<Agreement>, StoreFault>
-    ensures { Tells agreements_by_name
+    ensures { AsksOnly agreements_by_name
         (seen_in (state S.Store tables.old.connection))
         (seen_in (state S.Store tables.new.connection)) result }
 {
@@ -104,7 +104,7 @@ pub fn ask_text<S: Alter>(
     series: &SeriesName,
     number: Number,
 ) -> Result<Option<Text>, StoreFault>
-    ensures { Tells (text_after series.now number)
+    ensures { AsksOnly (text_after series.now number)
         (seen_in (state S.Store tables.old.connection))
         (seen_in (state S.Store tables.new.connection)) result }
 {

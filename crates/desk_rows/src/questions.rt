@@ -8,7 +8,7 @@ ghost use Rattle.desk_rows.specs.Seen.{seen_in};
 ghost use Rattle.series_rules.specs.Answers.{catalogue_answer, gaps_answer};
 ghost use Rattle.series_rules.specs.Gaps.{AreRisingFrom};
 ghost use Rattle.series_rules.specs.Offers.{offers_after};
-ghost use Rattle.series_rules.specs.Views.{Tells};
+ghost use Rattle.series_rules.specs.Views.{AsksOnly};
 
 use catalogue_rules::catalogue::Catalogue;
 use desk_catalogue::catalogues::read_catalogue;
@@ -50,7 +50,7 @@ pub fn ask_catalogue<S: Alter>(
     tables: &mut Tables<S>,
     series: &SeriesName,
 ) -> Result<Option<Catalogue>, StoreFault>
-    ensures { Tells (λ L. catalogue_answer L series.now)
+    ensures { AsksOnly (λ L. catalogue_answer L series.now)
         (seen_in (state S.Store tables.old.connection))
         (seen_in (state S.Store tables.new.connection)) result }
 {
@@ -64,7 +64,7 @@ pub fn collect_offers<S: Alter, C: OfferCollector>(
     isbn: &Isbn13,
     collector: C,
 ) -> Result<C, StoreFault>
-    ensures { Tells (λ L. fold C.collected collector (offers_after L isbn.now))
+    ensures { AsksOnly (λ L. fold C.collected collector (offers_after L isbn.now))
         (seen_in (state S.Store tables.old.connection))
         (seen_in (state S.Store tables.new.connection)) result }
 {
@@ -78,7 +78,7 @@ pub fn ask_offers<S: Alter>(
     tables: &mut Tables<S>,
     isbn: &Isbn13,
 ) -> Result<Items<Offer>, StoreFault>
-    ensures { Tells (λ L. offers_after L isbn.now)
+    ensures { AsksOnly (λ L. offers_after L isbn.now)
         (seen_in (state S.Store tables.old.connection))
         (seen_in (state S.Store tables.new.connection)) result }
 {
@@ -142,7 +142,7 @@ pub fn ask_gaps<S: Alter>(
     tables: &mut Tables<S>,
     series: &SeriesName,
 ) -> Result<Option<GapReport>, StoreFault>
-    ensures { Tells (λ L. gaps_answer L series.now)
+    ensures { AsksOnly (λ L. gaps_answer L series.now)
         (seen_in (state S.Store tables.old.connection))
         (seen_in (state S.Store tables.new.connection)) result }
 {

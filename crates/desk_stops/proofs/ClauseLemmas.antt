@@ -1,44 +1,37 @@
--- What `answer` promises makes its calls events of a run.
-use Rattle.std.proofs.Common.{List, [], ◌∷◌, Result, Ok, Err, sym, subst}
-use Rattle.sqlite.specs.Held.{Held, state}
-use Rattle.sqlite.specs.State.{HasCleanDisk}
-use Rattle.sqlite_trees.specs.Tree.{Trees}
-use Rattle.sqlite_trees.specs.declared.store.Store.{Ghosts}
+-- What the calls of a desk promise makes them steps.
+use Rattle.std.proofs.Common.{◌≡◌, List, Result, Ok, Err, inl, inr, sym, ap, ◌∙◌}
 use Rattle.onix_records.specs.declared.faults.StoreFault.{StoreFault}
 use Rattle.price_rules.specs.declared.precedence.Rule.{Rule}
-use Rattle.series_rules.proofs.TraceLemmas.{trace_premise}
+use Rattle.series_rules.proofs.ViewLemmas.{asks_of}
 use Rattle.series_rules.specs.Answers.{answer_to}
-use Rattle.series_rules.specs.Steps.{Asked, Step}
-use Rattle.series_rules.specs.Views.{Asks}
+use Rattle.series_rules.specs.Views.{Asks, DeskKind, View}
 use Rattle.series_rules.specs.declared.answers.Answer.{Answer}
 use Rattle.series_rules.specs.declared.requests.Request.{Request}
-use Rattle.desk_rows.proofs.ComesTo.{come_rows, or_rows}
-use Rattle.desk_stops.specs.Clauses.{TracesAreRuns, IsEvent, events_after, seen}
-use Rattle.desk_stops.specs.Connections.{storage}
-use Rattle.desk_stops.specs.Events.{Event, Answered, Faulted, Open}
-use Rattle.desk_stops.specs.Runs.{Runs}
+use Rattle.desk_stops.specs.Clauses.{CallsAreSteps, outcome}
 
-module _ {Store : Type 0} (g : Ghosts Store) (rules : List Rule) where
-  asked : (r : Request) (o : Result Answer StoreFault) (old new : Held Store) → Asks r (λ L. answer_to rules L r) (seen g rules old) (seen g rules new) o → IsEvent g rules r o old new
-  asked r (Ok a) old new it = record {
-    ok = λ sound L stands. it.ok L stands sound;
-    crash = λ sound L stands d leaves. or_rows d (r ∷ L) (it.crash L stands sound d leaves);
-    alone = λ sound L stands did d leaves. come_rows d (r ∷ L) (it.changed L stands sound did d leaves);
-  }
-  asked r (Err fault) old new it = record {
-    err = λ sound L stands. it.err L stands sound;
-    crash = λ sound L stands d leaves. or_rows d (r ∷ L) (it.crash L stands sound d leaves);
-  }
+asked : {X : Type 0} {k : DeskKind} (rules : List Rule) (r : Request) (made : X → Answer) (given : List Request → X) → ((L : List Request) → answer_to rules L r ≡ made (given L))
+    → (o : Result X StoreFault) (old new : View k) → Asks r given old new o → Asks r (λ L. answer_to rules L r) old new (outcome made o)
+asked rules r made given is (Ok x) old new it = record {
+  premise = it.premise;
+  ok = λ L stands sound. let done = it.ok L stands sound in (ap made done.0 ∙ sym (is L), done.1);
+  err = λ L stands sound. tt;
+  crash = it.crash;
+  changed = it.changed;
+  question = it.question;
+  undone = λ sound. tt;
+  fault = tt;
+}
+asked rules r made given is (Err f) old new it = record {
+  premise = it.premise;
+  ok = λ L stands sound. tt;
+  err = it.err;
+  crash = it.crash;
+  changed = λ L stands sound did. tt;
+  question = it.question;
+  undone = it.undone;
+  fault = it.fault;
+}
 
-  trace_runs : (found : Trees) (h : List (Event Request Answer)) (steps : List Step) (old new : Held Store)
-      → Runs (storage g rules) found h (Open old) → Asked (seen g rules) rules old new steps → HasCleanDisk (state g new) → Runs (storage g rules) found (events_after g rules h steps) (Open new)
-  trace_runs found h [] old new runs same clean = subst (λ c. Runs (storage g rules) found h (Open c)) (sym same) runs
-  trace_runs found h ((r, Ok a) ∷ steps) old new runs (next, first, rest) clean =
-      trace_runs found (Answered r a ∷ h) steps next new
-      (Open old, runs, (trace_premise (seen g rules) rules steps next new rest clean, asked r (Ok a) old next first)) rest clean
-  trace_runs found h ((r, Err f) ∷ steps) old new runs (next, first, rest) clean =
-      trace_runs found (Faulted r ∷ h) steps next new
-      (Open old, runs, (trace_premise (seen g rules) rules steps next new rest clean, asked r (Err f) old next first)) rest clean
-
-  pub traces_are_runs : TracesAreRuns g rules
-  traces_are_runs = record { one = asked; all = trace_runs }
+pub calls_are_steps : {D X : Type 0} {k : DeskKind} (seen : D → View k) (rules : List Rule) → CallsAreSteps {X = X} seen rules
+calls_are_steps seen rules r made given is o old new (inl asks) = asked rules r made given is o (seen old) (seen new) asks
+calls_are_steps seen rules r made given is o old new (inr (asks, only)) = asked rules r made given is o (seen old) (seen new) (asks_of r given (seen old) (seen new) o asks only)

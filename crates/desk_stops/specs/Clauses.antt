@@ -1,46 +1,25 @@
--- What is promised of a request that is asked of the desk in a SQLite file, as what the events of a
--- run ask for.
-use Rattle.std.specs.Prelude.{List, [], ◌∷◌, Result, Ok, Err}
-use Rattle.sqlite.specs.Held.{Held, state}
-use Rattle.sqlite.specs.State.{HasCleanDisk}
-use Rattle.sqlite_trees.specs.Tree.{Trees}
-use Rattle.sqlite_trees.specs.declared.store.Store.{Ghosts}
+-- What is promised of a call of a desk, as what is asked of a step.
+use Rattle.std.specs.Prelude.{◌≡◌, ◌⊎◌, true, List, Result, Ok, Err}
 use Rattle.onix_records.specs.declared.faults.StoreFault.{StoreFault}
 use Rattle.price_rules.specs.declared.precedence.Rule.{Rule}
 use Rattle.series_rules.specs.Answers.{answer_to}
-use Rattle.series_rules.specs.Steps.{Asked, Step}
-use Rattle.series_rules.specs.Views.{Asks, View}
+use Rattle.series_rules.specs.Changes.{is_question}
+use Rattle.series_rules.specs.Views.{Asks, AsksOnly, DeskKind, View}
 use Rattle.series_rules.specs.declared.answers.Answer.{Answer}
 use Rattle.series_rules.specs.declared.requests.Request.{Request}
-use Rattle.desk_rows.specs.Seen.{in_tables, seen_in}
-use Rattle.desk_stops.specs.Connections.{storage}
-use Rattle.desk_stops.specs.Events.{Event, Answered, Faulted, Open}
-use Rattle.desk_stops.specs.Runs.{Answers, Faults, Runs}
 
-module _ {Store : Type 0} (g : Ghosts Store) (rules : List Rule) where
-  -- the outcome of a request is an event: the answer, or a fault
-  abbrev pub IsEvent : Request → Result Answer StoreFault → Held Store → Held Store → Type 0
-  IsEvent r (Ok a) old new = Answers (storage g rules) r a old new
-  IsEvent r (Err fault) old new = Faults (storage g rules) r old new
+-- the answer that is made of what a call gave, or its fault
+abbrev pub outcome : {X : Type 0} → (X → Answer) → Result X StoreFault → Result Answer StoreFault
+outcome made (Ok x) = Ok (made x)
+outcome made (Err f) = Err f
 
-  -- what is seen of a desk over a connection
-  abbrev pub seen : Held Store → View in_tables
-  seen c = seen_in (state g c)
-
-  -- the events behind those of h, of requests with their outcomes
-  abbrev pub events_after : List (Event Request Answer) → List Step → List (Event Request Answer)
-  events_after h [] = h
-  events_after h ((r, Ok a) ∷ steps) = events_after (Answered r a ∷ h) steps
-  events_after h ((r, Err f) ∷ steps) = events_after (Faulted r ∷ h) steps
-
-  -- what `answer` promises makes it an event, and steps that were asked go on with a run
-  pub record TracesAreRuns : Type 0 where
-    pub one : (r : Request) (o : Result Answer StoreFault) (old new : Held Store)
-        → Asks r (λ L. answer_to rules L r) (seen old) (seen new) o
-        → IsEvent r o old new
-    pub all : (found : Trees) (h : List (Event Request Answer)) (steps : List Step)
-        (old new : Held Store)
-        → Runs (storage g rules) found h (Open old)
-        → Asked seen rules old new steps
-        → HasCleanDisk (state g new)
-        → Runs (storage g rules) found (events_after h steps) (Open new)
+-- Each way out of a call of a desk, which gives X, of which the answer to a request is made, is one
+-- of that request. So it is with `agree`, `deliver` and `waive`, and with the calls that only ask.
+abbrev pub CallsAreSteps : {D X : Type 0} → {k : DeskKind} → (D → View k) → List Rule → Type 0
+CallsAreSteps {D} {X} seen rules =
+    (r : Request) (made : X → Answer) (given : List Request → X)
+    → ((L : List Request) → answer_to rules L r ≡ made (given L))
+    → (o : Result X StoreFault) (old new : D)
+    → Asks r given (seen old) (seen new) o
+    ⊎ ((is_question r ≡ true) × AsksOnly given (seen old) (seen new) o)
+    → Asks r (λ L. answer_to rules L r) (seen old) (seen new) (outcome made o)

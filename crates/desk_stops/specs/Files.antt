@@ -2,7 +2,7 @@
 -- for.
 use Rattle.std.specs.Prelude.{◌≡◌, ◌⊎◌, List, []}
 use Rattle.sqlite.specs.Closing.{IsCopied}
-use Rattle.sqlite.specs.Files.{HoldsDatabase, IsCleanLeft, IsClosed, IsEmpty, file_state, image_of, over_files}
+use Rattle.sqlite.specs.Files.{HoldsDatabase, IsCleanLeft, IsClosed, IsEmpty, file_state, image_of}
 use Rattle.sqlite.specs.Held.{Held, IsConnected, state}
 use Rattle.sqlite.specs.State.{HasCleanDisk}
 use Rattle.sqlite.specs.declared.file.Leftover.TheVariants as leftover
@@ -15,25 +15,24 @@ use Rattle.sqlite_trees.specs.Tree.{Trees}
 use Rattle.sqlite_trees.specs.declared.store.Store.{Ghosts}
 use Rattle.sqlite_wal.specs.Reads.{AreClean}
 use Rattle.sqlite_wal.specs.Recovery.{Image}
-use Rattle.price_rules.specs.declared.precedence.Rule.{Rule}
 use Rattle.series_rules.specs.declared.requests.Request.{Request}
 use Rattle.desk_rows.specs.Desks.{AreRowsOf, KeepsRequests}
+use Rattle.desk_rows.specs.Seen.{in_tables, seen_in}
 use Rattle.desk_versions.specs.Openings.{AreFilesOf, MakesIndex, SparesFiles}
-use Rattle.desk_stops.specs.Connections.{storage}
-use Rattle.desk_stops.specs.Events.{Stop, Open, Closed}
-use Rattle.desk_stops.specs.Runs.{Closes, IsFoundFor, KeepsFound, Opens, Steps}
+use Rattle.desk_stops.specs.Connections.{HaveNoTable}
+use Rattle.desk_stops.specs.Runs.{Closes, IsFoundFor, KeepsFound, Opens}
 
 -- the files hold a database with these trees, or the database file has no byte yet and they are
 -- empty
 abbrev pub AreFilesAt : Image → Trees → Type 0
 AreFilesAt image found = ∥ HoldsDatabase image found ∥₁ ⊎ ((image.db ≡ []) × IsEmpty found)
 
--- What a desk's opening of two files promises makes it an event, at the database that the files
+-- What a desk's opening of two files promises makes it one of a run, at the database that the files
 -- hold.
-pub record FileOpeningsAreEvents {D : Type 0} (g : disk.Ghosts D) (rules : List Rule) : Type 0 where
+pub record FileOpeningsAreEvents {D : Type 0} (g : disk.Ghosts D) : Type 0 where
   -- what is found for a list are files of it
   pub found : (image : Image) (found : Trees) → AreFilesAt image found
-      → (L : List Request) → IsFoundFor (storage (over_files {g = g}) rules) found L
+      → (L : List Request) → IsFoundFor {in_tables} HaveNoTable found L
       → AreFilesOf image L
   -- with a desk, by its clauses `stands` and `alone`
   pub ok : (image : Image) (found : Trees) (new : Held (FileStore D g)) → AreFilesAt image found
@@ -42,31 +41,31 @@ pub record FileOpeningsAreEvents {D : Type 0} (g : disk.Ghosts D) (rules : List 
       → KeepsRequests (file_state new) L)
       → (HasCleanDisk (file_state new) → (L : List Request) → AreFilesOf image L → (left : Trees)
       → (file_state new).may_leave left → AreRowsOf left L)
-      → Opens (storage over_files rules) found new
+      → Opens HaveNoTable found (seen_in (file_state new))
   -- with a fault, by its clause `left` (`KeepsFiles`), where a store is left of the files
   pub failed : (image : Image) (found : Trees) (it : FileStore D g) → AreFilesAt image found
       → (IsCleanLeft (leftover.Store it) → SparesFiles MakesIndex image (recovers it))
       → IsCleanLeft (leftover.Store it)
       → (left : Trees) → recovers it left
-      → KeepsFound (storage (over_files {g = g}) rules) found left
+      → KeepsFound {in_tables} HaveNoTable found left
 
 -- what a stop and a closing leave of the files, at which the next opening is an event
-pub record FilesAreLeft {D : Type 0} (g : disk.Ghosts D) (rules : List Rule) : Type 0 where
+pub record FilesAreLeft {D : Type 0} (g : disk.Ghosts D) : Type 0 where
   -- each pair of files that a stop may leave holds a database that is an event of a run
   pub stop : (old : Held (FileStore D g)) (image : Image)
       → IsConnected (view old.store) (recovers old.store) old.schema old.saved old.in_transaction
       → HasCleanDisk (file_state old)
       → (files.state old.store).may_leave image
       → ∥ ((left : Trees) × AreFilesAt image left
-      × Steps (storage over_files rules) (Open old) Stop (Closed left)) ∥₁
+      × (file_state old).may_leave left) ∥₁
   -- so it is with the files that a closing gives back, by its clause `copied`
   pub closing : (old : Held (FileStore D g)) (files : Files D)
       → (AreClean g files.log files.db → IsCopied old files)
       → AreClean g files.log files.db
       → AreFilesAt (image_of g files) (file_state old).committed.trees
-      × Closes (storage (over_files {g = g}) rules) old (file_state old).committed.trees
+      × Closes HaveNoTable (seen_in (file_state old)) (file_state old).committed.trees
   -- a closing that failed, or that a stop came into, is a stop: it leaves what a stop before it may
   -- leave
   pub failed : (old : Held (FileStore D g)) (last : FileStore D g) → IsClosed old last
       → (left : Trees) → recovers last left
-      → Steps (storage over_files rules) (Open old) Stop (Closed left)
+      → (file_state old).may_leave left

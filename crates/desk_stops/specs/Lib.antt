@@ -1,4 +1,3 @@
-pub mod Events
 pub mod Runs
 pub mod Effective
 pub mod Connections

@@ -1,11 +1,11 @@
 //! Runs of the desk in a SQLite file with stops between its calls and inside them, as laws without
 //! code.
 //!
-//! `specs/Events` says what may happen; `Runs` what each call of a desk promises of what it stands for
-//! and of what a stop may leave, and which lists of events are runs; `Effective` which lists of requests
-//! what is there then may stand for. They are told of any kind of desk, a `Storage`; `Connections` has
-//! the desk in a SQLite file as one. `laws` has what they come to, and `clauses` makes each call an event
-//! of a run, by the clauses of its methods (`Clauses`, `Files`, `Sessions`).
+//! `specs/Runs` says what may happen, and which lists of events are runs; `Effective` which lists of
+//! requests what is there then may stand for: of any kind of desk. `Connections` has the databases of
+//! the desk in a SQLite file. `laws` has what runs come to, and `clauses` makes each call a step, and
+//! each opening and closing of files an event of a run, by the clauses of its methods (`Clauses`,
+//! `Files`).
 #![tactic(auto)]
 
 pub mod clauses;

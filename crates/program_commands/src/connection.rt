@@ -26,10 +26,10 @@ use std::alloc::Global;
 use std::io::{Read, Write};
 
 /// A client: by what it is served, and the two ways of its connection.
-pub(crate) struct Client<R, W> {
-    pub(crate) protocol: Protocol,
-    pub(crate) reader: R,
-    pub(crate) writer: W,
+pub struct Client<R, W> {
+    pub protocol: Protocol,
+    pub reader: R,
+    pub writer: W,
 }
 
 // Writes the line of a connection that was not served whole.
@@ -71,7 +71,7 @@ fn print_batch_line<O: Write>(
 /// Serves a client by its protocol, as an exchange over HTTP, or as the batch of what it sends to
 /// the end, and writes the line of its connection. The routes are those of all exchanges. A line on
 /// standard error says of each malformed request and of a bad query why, as far as there is room.
-pub(crate) fn serve_connection<D: Desk, R: Read, W: Write, I, O: Write, E: Write>(
+pub fn serve_connection<D: Desk, R: Read, W: Write, I, O: Write, E: Write>(
     alloc: Global,
     routes: &Routes,
     desk: &mut D,

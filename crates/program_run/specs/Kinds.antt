@@ -123,8 +123,7 @@ module _ {M : Type 0} {m : DeskKind} (seen : M → View m) {K : Type 0} {k : Des
   Checks rules (CheckTexts files) = NoFileIsTouched × Written []
   Checks rules _ = ⊤
 
-  -- ---- tasks
-
+  -- the task is `batch`, and ended so; of other tasks nothing is said
   abbrev pub Batches : Task → (List Step → Type 0) → ℕ → Type 0
   Batches task.Batch asked status =
       BatchEnds asked Written (remaining old.streams.input) status
@@ -146,8 +145,7 @@ module _ {M : Type 0} {m : DeskKind} (seen : M → View m) {K : Type 0} {k : Des
       ServeEnds asked Written (is_some batches) port requests status
   Serves _ asked status = ⊤
 
-  -- ---- commands, if the words ask for one
-
+  -- how the program can end on these words, which say so of `batch` alone
   abbrev pub BatchRun : List (Bor (List ℕ)) → Type 0
   BatchRun words = RunEnds words (RunsTask Batches)
 

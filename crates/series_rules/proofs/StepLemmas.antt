@@ -44,7 +44,7 @@ further xs q r (k, few, is) = (suc k, omega (arith, few), is)
 
 module _ (k : DeskKind) (rules : List Rule) where
   -- one more in doubt, or none of them
-  more_doubted : (kept doubted : List Request) (r : Request) (b : Bool) (x : k.Left) → HasAll k kept doubted x → HasAll k kept (cond b doubted (r ∷ doubted)) x
+  pub more_doubted : (kept doubted : List Request) (r : Request) (b : Bool) (x : k.Left) → HasAll k kept doubted x → HasAll k kept (cond b doubted (r ∷ doubted)) x
   more_doubted kept doubted r true x is = is
   more_doubted kept doubted r false x (inl is) = inl is
   more_doubted kept doubted r false x (inr (q, among, is)) = inr (q, further doubted r q among, is)

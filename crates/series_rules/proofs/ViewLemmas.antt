@@ -3,12 +3,12 @@ use Rattle.std.proofs.Common.{◌≡◌, Bool, true, false, List, ◌∷◌, ◌
 use Rattle.std.specs.Prelude.{OnOk}
 use Rattle.onix_records.specs.declared.faults.StoreFault.{StoreFault}
 use Rattle.series_rules.specs.Changes.{changes, is_question}
-use Rattle.series_rules.specs.Views.{Asks, DeskKind, LeavesOnly, Tells, View}
+use Rattle.series_rules.specs.Views.{Asks, AsksOnly, DeskKind, LeavesOnly, View}
 use Rattle.series_rules.specs.declared.requests.Request.{Request}
 use Rattle.series_rules.proofs.Questions.{question_changes_nothing, question_left, unchanged}
 
 -- a question that was answered is a request that was
-pub asks_of : {A : Type 0} {k : DeskKind} (r : Request) (answer : List Request → A) (old new : View k) (result : Result A StoreFault) → is_question r ≡ true → Tells answer old new result → Asks r answer old new result
+pub asks_of : {A : Type 0} {k : DeskKind} (r : Request) (answer : List Request → A) (old new : View k) (result : Result A StoreFault) → is_question r ≡ true → AsksOnly answer old new result → Asks r answer old new result
 asks_of r answer old new (Ok a) is told = record {
   premise = told.premise;
   ok = λ L stands sound. (told.ok L stands sound, new.by_content L (r ∷ L) (question_left L r is) (told.left L stands sound));
@@ -31,8 +31,8 @@ asks_of r answer old new (Err f) is told = record {
 }
 
 -- what is made of an answer is the answer that is made of it after each list
-pub tells_made : {A B : Type 0} {k : DeskKind} (answer : List Request → A) (made : List Request → B) (old new : View k) (a : A) (b : B) → ((L : List Request) → a ≡ answer L → b ≡ made L) → Tells answer old new (Ok a) → Tells made old new (Ok b)
-tells_made answer made old new a b is told = record {
+pub only_made : {A B : Type 0} {k : DeskKind} (answer : List Request → A) (made : List Request → B) (old new : View k) (a : A) (b : B) → ((L : List Request) → a ≡ answer L → b ≡ made L) → AsksOnly answer old new (Ok a) → AsksOnly made old new (Ok b)
+only_made answer made old new a b is told = record {
   premise = told.premise;
   ok = λ L stands sound. is L (told.ok L stands sound);
   left = told.left;
@@ -41,8 +41,8 @@ tells_made answer made old new a b is told = record {
 }
 
 -- nothing was asked of the desk
-pub tells_unasked : {A : Type 0} {k : DeskKind} (answer : List Request → A) (desk : View k) (a : A) → ((L : List Request) → a ≡ answer L) → Tells answer desk desk (Ok a)
-tells_unasked answer desk a is = record {
+pub only_unasked : {A : Type 0} {k : DeskKind} (answer : List Request → A) (desk : View k) (a : A) → ((L : List Request) → a ≡ answer L) → AsksOnly answer desk desk (Ok a)
+only_unasked answer desk a is = record {
   premise = λ sound. sound;
   ok = λ L stands sound. is L;
   left = λ L stands sound. stands;

@@ -65,7 +65,7 @@ pub record Asks {A : Type 0} {k : DeskKind} (r : Request) (answer : List Request
 
 -- A desk was asked a question, with that answer after each list. It stands for what it did, and
 -- nothing changed
-pub record Tells {A : Type 0} {k : DeskKind} (answer : List Request → A) (old new : View k)
+pub record AsksOnly {A : Type 0} {k : DeskKind} (answer : List Request → A) (old new : View k)
     (result : Result A StoreFault) : Type 0 where
   pub premise : new.sound → old.sound
   pub ok : (L : List Request) → old.stands_for L → new.sound → IfOk result (λ a. a ≡ answer L)

@@ -1,10 +1,8 @@
 """The one client of the desk, at its socket for batches: it asks for gaps, delivers messages, asks questions."""
 
-import json
 from collections.abc import Iterable, Iterator
 from dataclasses import dataclass
 from pathlib import Path
-from typing import Any
 
 from onixdesk_shop.faults import Fault
 from onixdesk_shop.lines import cut
@@ -36,31 +34,24 @@ class Gaps:
 
 @dataclass(frozen=True)
 class Taken:
-    """The desk took a message: its series and number, and how many products had which effect, or the number for which
-    it waits."""
+    """The desk took a message: its series, and how many products had which effect, or the number for which it waits;
+    `said` is the answer."""
 
     series: str
-    number: int
     counts: dict[str, int]
     said: str
 
 
 @dataclass(frozen=True)
 class Refused:
-    """The desk refused a message, and why."""
+    """The desk refused a message: the reason, and the other fields of the answer."""
 
     reason: str
-    members: dict[str, Any]
-    said: str
+    words: list[str]
 
-
-# The members of a refusal.
-MEMBERS = {
-    "malformed": ("row",),
-    "before-first": ("series", "number", "first"),
-    "waived": ("series", "number"),
-    "other-contents": ("series", "number"),
-}
+    @property
+    def said(self) -> str:
+        return ",".join(["refused", self.reason, *self.words])
 
 
 class Desk:
@@ -96,13 +87,11 @@ class Desk:
     def post(self, message: bytes) -> Taken | Refused:
         """The answer to a message; raises Fault if it is neither yes nor no."""
         match self.batch(message.decode()):
-            case [["applied" | "held" as kind, series, number, *words]]:
+            case [["applied" | "held", series, _, *words] as record]:
                 counts = {name: int(value) for name, value in (word.split("=") for word in words)}
-                said = {"answer": kind, "series": series, "number": int(number), **counts}
-                return Taken(series, int(number), counts, json.dumps(said))
-            case [["refused", reason, *more]]:
-                members = dict(zip(MEMBERS.get(reason, ()), more))
-                return Refused(reason, members, json.dumps({"answer": "refused", "reason": reason, **members}))
+                return Taken(series, counts, ",".join(record))
+            case [["refused", reason, *words]]:
+                return Refused(reason, words)
             case records:
                 raise Fault(f"the desk answers {cut(str(records))}")
 

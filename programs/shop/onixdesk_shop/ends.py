@@ -51,10 +51,7 @@ def program_of(word: Path) -> Path:
     return Path(found).absolute()
 
 
-Work = Callable[[Machine, argparse.Namespace], int]
-
-
-def call(parser: argparse.ArgumentParser, work: Work) -> int:
+def call(parser: argparse.ArgumentParser, work: Callable[[Machine, argparse.Namespace], int]) -> int:
     """Does a program's work on this machine, by its command line, and returns the status. If it `goes_on`, it ignores a
     terminal that hangs up."""
     options = parser.parse_args()

@@ -105,10 +105,7 @@ def convert(
 
 def check(machine: Machine, program: Path, message: bytes) -> str:
     """Why the desk would refuse a message, or an empty text."""
-    try:
-        ended = machine.run([program, "check", "-"], (DONE, FAILED), message, seconds=CHECK_SECONDS)
-    except BadEnd as end:
-        return f"its check failed: {end}"
+    ended = machine.run([program, "check", "-"], (DONE, FAILED), message, seconds=CHECK_SECONDS)
     if ended.status == DONE:
         return ""
     lines = ended.errors.decode("utf-8", "backslashreplace").splitlines()

@@ -30,18 +30,7 @@ PROGRAMS = {
 REFUSE = ["--refuse", "3f9a0c51d2b7", "north"]
 TAKE_OUT = ["/^Message,2,06,N,06,S,2,/,/^EndMessage,/d", "/^Agree,north,/aWaive,north,2"]
 
-SAID = " ".join(TAKE_OUT)
-CALLS = [
-    "desk-copy /var/lib/onixdesk/shop.db before",
-    "onixdesk --db before/shop.db --existing export",
-    "onixdesk --db before/shop.db --existing gaps",
-    f"desk-restore --said north next=3, {SAID} --text after.csv before",
-    "systemctl start onixdesk-copy.service",
-]
-REFUSING = [
-    call.replace("--said north next=3, ", f"{' '.join(REFUSE)} --said north next=3, {' '.join(REFUSE)} ")
-    for call in CALLS
-]
+CALLS = ["desk-copy", "onixdesk", "onixdesk", "desk-restore", "systemctl"]
 
 
 def corrected(room: Room, *words: str, status: int = 0) -> tuple[int, list[str]]:
@@ -50,7 +39,7 @@ def corrected(room: Room, *words: str, status: int = 0) -> tuple[int, list[str]]
     folder.mkdir(exist_ok=True)
     for name, text in PROGRAMS.items():
         path = folder / name
-        path.write_text(f'#!/bin/sh\necho "{name} $*" >>"$ROOM/calls"\n{text}\n')
+        path.write_text(f'#!/bin/sh\necho {name} >>"$ROOM/calls"\n{text}\n')
         path.chmod(stat.S_IRWXU)
     room.write("text", TEXT.encode())
     room.write("status", str(status).encode())
@@ -68,7 +57,7 @@ def default_signals() -> None:
 
 
 def a_message_is_taken_out(room: Room) -> Iterator[Outcome]:
-    yield Outcome("refused by the restore, a new copy at the end", corrected(room, *REFUSE, *TAKE_OUT), (0, REFUSING))
+    yield Outcome("a new copy at the end", corrected(room, *REFUSE, *TAKE_OUT), (0, CALLS))
     lines = TEXT.splitlines(keepends=True)
     wanted = "".join([lines[0], "Waive,north,2\n", *lines[1:3]])
     yield Outcome("the text", room.path("corrected").read_text(), wanted)

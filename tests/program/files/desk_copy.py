@@ -10,7 +10,7 @@ import threading
 import time
 from collections.abc import Iterator
 from concurrent.futures import ThreadPoolExecutor
-from contextlib import closing, contextmanager
+from contextlib import closing, contextmanager, suppress
 from functools import partial
 from pathlib import Path
 
@@ -258,10 +258,8 @@ def killed(kind: str, room: Room) -> Iterator[Outcome]:
         for name in OLD[:2]:
             (shop.copies / name).mkdir()
         machine = shop.machine(kind, at)
-        try:
+        with suppress(Killed):
             run(shop, *words, machine=machine)
-        except Killed:
-            pass
         if machine.calls < at:
             break
         names = [path.name for path in shop.copies.iterdir() if path.name[0] != "."]

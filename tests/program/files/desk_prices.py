@@ -4,6 +4,8 @@ import json
 import time
 from collections.abc import Iterator
 
+from onixdesk_shop.machine import Machine
+from onixdesk_shop.prices.rows import may_be_old
 from tests.program.databases import DATABASE, batch
 from tests.program.room import Ran, Room
 from tests.running import Outcome
@@ -66,21 +68,19 @@ def run(room: Room, *words: str) -> Ran:
     return room.call([ROOT / "bin/desk-prices", *places, "--day", "20250310", *words, DATABASE, "till"])
 
 
+# How the inbox of north stands, with nothing that waits.
+SHOWN = {"desk": True, "silent": False, "next": 2, "greatest": 1} | dict.fromkeys(
+    ("quarantined", "refused", "waiting"), 0
+)
+
+
 def a_file_of_prices(room: Room) -> Iterator[Outcome]:
     batch(room, (AGREEMENTS + NORTH + SOUTH).encode())
     for name in ("till", "state"):
         room.path(name).mkdir()
     room.write("rules.toml", RULES.encode())
     room.write("desk.json", json.dumps(SETTINGS).encode())
-    shown = {
-        "at": int(time.time()),
-        "desk": True,
-        "silent": False,
-        "quarantined": 0,
-        "refused": 0,
-        "next": 2,
-        "greatest": 1,
-    }
+    shown = SHOWN | {"at": int(time.time())}
     room.write("state/north.json", json.dumps(shown).encode())
     came = run(room)
     yield Outcome("status", (came.status, came.errors), (0, b""))
@@ -96,3 +96,17 @@ def a_file_of_prices(room: Room) -> Iterator[Outcome]:
     yield Outcome("a wrong key", (came.status, came.errors), (2, b"desk-prices: desk.json: price_file: file\n"))
     came = run(room, "--day", "20250230")
     yield Outcome("no day of the calendar", (came.status, b"20250230 is not a day YYYYMMDD" in came.errors), (2, True))
+
+
+def rows_that_may_be_old(room: Room) -> Iterator[Outcome]:
+    """Those of a series of which something waits, or nobody knows."""
+    machine = Machine("test")
+    for name, more in {
+        "nothing waits": {},
+        "no desk": {"desk": False},
+        "silent": {"silent": True},
+        "a missing number": {"greatest": 3},
+        **{f"a file is {name}": {name: 1} for name in ("quarantined", "refused", "waiting")},
+    }.items():
+        room.write("north.json", json.dumps({"at": machine.now()} | SHOWN | more).encode())
+        yield Outcome(name, bool(may_be_old(machine, room.path("north.json"))), name != "nothing waits")

@@ -2,6 +2,7 @@
 
 import os
 from collections.abc import Iterator
+from contextlib import suppress
 from functools import partial
 from typing import Any
 
@@ -268,10 +269,8 @@ def killed(kind: str, room: Room) -> Iterator[Outcome]:
         shop = shop_in(room, f"{kind}{at}")
         old = standing(shop)
         machine = shop.machine(kind, at)
-        try:
+        with suppress(Killed, SystemExit):
             run(shop, machine)
-        except (Killed, SystemExit):
-            pass
         if machine.calls < at:
             break
         if shop.database.exists() and standing(shop) not in (old, RENEWED):

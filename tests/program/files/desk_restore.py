@@ -4,6 +4,7 @@ import argparse
 import os
 import shutil
 from collections.abc import Iterator
+from contextlib import suppress
 from dataclasses import replace
 from functools import partial
 from pathlib import Path
@@ -240,6 +241,11 @@ def corrections(room: Room) -> Iterator[Outcome]:
     before = shop.database.read_bytes()
     yield Outcome("a text that the desk refuses", (run(shop, copy, text=text) > 0, shop.started), (True, {*UNITS}))
     yield Outcome("the desk", shop.database.read_bytes() == before, True)
+    latest, shop.inbox.desk = shop.take_copy("2026-12-01T02-30-12Z"), None
+    shutil.rmtree(shop.database.parent)
+    shop.database.parent.mkdir()
+    yield Outcome("on another machine", (run(shop, latest), price(shop)), (0, "99.000"))
+    yield Outcome("a copy from before, there", run(shop, shop.copies / "night"), 1)
 
 
 def held_at_a_wrong_number(room: Room) -> Iterator[Outcome]:
@@ -320,10 +326,9 @@ def killed(kind: str, room: Room) -> Iterator[Outcome]:
         shop = shop_in(room, f"{kind}{at}", number=NEXT)
         copy = four_days(shop)
         machine = shop.machine(kind, at)
-        try:
+        status = -9
+        with suppress(Killed, SystemExit):
             status = run(shop, copy, machine)
-        except (Killed, SystemExit):
-            status = -9
         if machine.calls < at:
             break
         if shop.database.exists() and has_of(shop.database) not in ([1], [1, 2, 3, 4]):

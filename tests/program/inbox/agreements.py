@@ -11,7 +11,7 @@ from onixdesk_shop.settings import NEXT
 from tests.program.inbox.files import inbox_in, price_of
 from tests.program.room import Room
 from tests.running import Outcome
-from tests.shop.fake_desk import FakeDesk, Series
+from tests.shop.fake_desk import WAIVED, FakeDesk, Series
 from tests.shop.fake_machine import FakeMachine, Killed
 from tests.shop.fake_program import SENDER, feed_of, message_of, product_of
 from tests.shop.inboxes import SHOP, START
@@ -137,6 +137,19 @@ def numbered_anew(room: Room) -> Iterator[Outcome]:
         inbox.begin_desk(addressee)
         inbox.run()
     yield Outcome("posted again", ([*inbox.series.had], price_of(inbox, "R1")), ([1, 2], "4.600"))
+
+
+def given_up(room: Room) -> Iterator[Outcome]:
+    """Below a number that is waived, since a person refused its file, what waits for an agreement keeps its own."""
+    inbox = inbox_in(room, "given up", number=NEXT)
+    inbox.series.parties = (*SENDER, *ADDRESSEE)
+    for place in (1, 2):
+        inbox.take(f"{place}.xml", feed_of(place, {"R1": f"{place}.00"}))
+    inbox.decide("refuse", "2.xml")
+    inbox.series.parties = (*SENDER, "", "")
+    inbox.run()
+    found = sorted(inbox.series.had), inbox.series.had.get(2), price_of(inbox, "R1")
+    yield Outcome("its number", found, ([1, 2], WAIVED, "1.000"))
 
 
 def tried_again(room: Room) -> Iterator[Outcome]:

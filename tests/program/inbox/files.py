@@ -7,14 +7,12 @@ from dataclasses import replace
 from typing import Any
 from unittest.mock import patch
 
-from onixdesk_shop.children import Ended
 from onixdesk_shop.faults import BadEnd
 from onixdesk_shop.inbox import decide, keeping, report, show
 from onixdesk_shop.inbox.command_line import numbers_word
 from onixdesk_shop.settings import NEXT
 from tests.program.room import Room
 from tests.running import Outcome
-from tests.shop import fake_program
 from tests.shop.fake_desk import WAIVED
 from tests.shop.fake_program import SENDER, feed_of, isbn_of, message_of, product_of
 from tests.shop.fake_machine import FakeMachine, Killed
@@ -302,21 +300,6 @@ def refused(room: Room) -> Iterator[Outcome]:
     yield Outcome("all numbers of its parts", "waive north 4996-5000; " in said, True)
 
 
-def check_that_dies(room: Room) -> Iterator[Outcome]:
-    """A message that the desk's check does not end on is refused, and what lies behind it goes on."""
-    inbox = inbox_in(room, "dies")
-    real = fake_program.ended
-
-    def dies(words: list[str], text: bytes) -> Ended:
-        return Ended(137, b"", b"") if "check" in words and b"R1" in text else real(words, text)
-
-    inbox.send("1.xml", feed_of(1, {"R1": "1.00"}))
-    inbox.send("2.xml", feed_of(2, {"R2": "2.00"}))
-    with patch.object(fake_program, "ended", dies):
-        inbox.run()
-    yield Outcome("refused, and the next one held", inbox.states(), {"1.xml": "refused", "2.xml": "held"})
-
-
 def halves(room: Room) -> Iterator[Outcome]:
     """Where the desk has a half of a feed, another one of that number is taken if that half is the same."""
     inbox = inbox_in(room, "halves", words=("--parts", "2"))
@@ -432,12 +415,20 @@ def lacking(room: Room) -> Iterator[Outcome]:
 
 
 def unforeseen(room: Room) -> Iterator[Outcome]:
-    """What nobody foresaw of a file stops the series with a line, and never passes."""
-    for name, error in ("mistake", ValueError("no digit")), ("child", BadEnd("onixdesk was killed by signal 9")):
+    """What nobody foresaw of a file stops the series with a line, never passes, and is tried again once a person says so."""
+    for name, target, error in (
+        ("mistake", "onixdesk_shop.inbox.quarantine.look_at", ValueError("no digit")),
+        ("child", "onixdesk_shop.inbox.quarantine.look_at", BadEnd("onixdesk was killed by signal 9")),
+        ("conversion", "tests.shop.fake_program.convert", BadEnd("onixdesk was killed by signal 9")),
+        ("check", "tests.shop.fake_program.check", BadEnd("onixdesk takes too long")),
+    ):
         inbox = inbox_in(room, name)
         inbox.take("1.xml", feed_of(1, {"R1": "1.00"}))
         inbox.send("2.xml", feed_of(2, {"R1": "2.00"}))
-        with patch("onixdesk_shop.inbox.quarantine.look_at", side_effect=error):
+        with patch(target, side_effect=error):
             lines = inbox.run()
         found = inbox.states()["2.xml"], len(lines), str(error) in lines[0]
         yield Outcome(name, found, ("quarantined", 1, True))
+        inbox.decide("let-in", "2.xml")
+        inbox.run()
+        yield Outcome(f"{name}: let in", price_of(inbox, "R1"), "2.000")

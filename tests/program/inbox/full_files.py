@@ -1,12 +1,14 @@
 """What full files do not name any more."""
 
 from collections.abc import Iterator
+from contextlib import suppress
 from typing import Any
 
 from onixdesk_shop.inbox import report
 from onixdesk_shop.settings import NEXT
 from tests.program.room import Room
 from tests.running import Outcome
+from tests.shop.fake_machine import FakeMachine, Killed
 from tests.shop.fake_program import feed_of
 from tests.shop.inboxes import FakeInbox
 
@@ -35,6 +37,11 @@ def deleted(room: Room) -> Iterator[Outcome]:
     inbox = inbox_in(room, "one", full=1, full_names=("full*",))
     send_all(inbox, full1=books(1, 2, 3), delta=books(4), full2=books(2, 3))
     yield Outcome("all that the last full file has not", named(inbox), ["B2", "B3"])
+    inbox.send("full3.xml", feed_of(None, books(3)))
+    with suppress(Killed):
+        inbox.run(FakeMachine(inbox.disk, inbox.desk, inbox.clock, ("kill", "renamed", 2)))
+    inbox.run()
+    yield Outcome("also by a name that it got amid a removal", named(inbox), ["B3"])
     inbox = inbox_in(room, "three", full=3)
     send_all(inbox, a=books(1), b=books(2), c=books(3), d=books(4), e=books(5))
     yield Outcome("a load in three files", named(inbox), ["B3", "B4", "B5"])

@@ -1,8 +1,6 @@
 """Runs of the program `onixdesk-inbox` over folders of their own, and what other tests need of a desk beside it."""
 
 import os
-import sqlite3
-from contextlib import closing
 from pathlib import Path
 
 from tests.program.databases import DATABASE
@@ -68,8 +66,3 @@ class Inbox:
         ]
         more: list[Word] = ["--rules", "none", "--page", "none", "--program", self.room.program]
         return self.room.call([PROGRAM, *places, *more, self.series], environment=os.environ)
-
-    def answers(self) -> list[str]:
-        """The desk's answers to the messages, in order of their numbers."""
-        with closing(sqlite3.connect(self.room.path(f"inboxes/{self.series}/ledger.db"))) as ledger:
-            return [answer for (answer,) in ledger.execute("SELECT answer FROM message ORDER BY number")]

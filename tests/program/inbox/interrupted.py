@@ -2,6 +2,7 @@
 
 import os
 from collections.abc import Iterator
+from contextlib import suppress
 from functools import partial
 
 from onixdesk_shop.settings import NEXT
@@ -38,10 +39,8 @@ def interrupted(kind: str, room: Room) -> Iterator[Outcome]:
         for name, data in FILES.items():
             inbox.send(name, data)
         machine = FakeMachine(inbox.disk, inbox.desk, inbox.clock, (kind, "", at))
-        try:
+        with suppress(Killed, SystemExit, OSError):
             inbox.run(machine)
-        except (Killed, SystemExit, OSError):
-            pass
         if machine.calls < at:
             break
         if found := wrong_with(inbox):

@@ -2,6 +2,7 @@
 
 import os
 import shlex
+import time
 from collections.abc import Iterator
 
 from onixdesk_shop.inbox import decide
@@ -88,6 +89,44 @@ def what_is_told_once(room: Room) -> Iterator[Outcome]:
     yield Outcome(
         "silence", (inbox.run(), inbox.shown()["silent"]), (["nothing came for 4 days but empty files"], True)
     )
+
+
+def never_heard(room: Room) -> Iterator[Outcome]:
+    """A wholesaler that never sent anything is silent, too, once the inbox is there for days."""
+    inbox = inbox_in(room, "never")
+    inbox.clock = int(time.time())
+    yield Outcome("at first", (inbox.run(), inbox.shown()["silent"]), ([], False))
+    inbox.clock += 5 * DAY
+    found = inbox.run(), inbox.run(), inbox.shown()["silent"], inbox.shown()["heard_at"]
+    yield Outcome("once", found, (["nothing came for 4 days but empty files"], [], True, None))
+
+
+def a_second_wait(room: Room) -> Iterator[Outcome]:
+    """For a number that a restored desk lacks again: it is told again."""
+    inbox = inbox_in(room, "second")
+    inbox.take("1.xml", feed_of(1, {"R1": "1.00"}))
+    assert inbox.desk
+    before = inbox.desk.copy()
+    inbox.take("3.xml", feed_of(3, {"R3": "1.00"}))
+    inbox.clock += 2 * DAY
+    first = inbox.run()
+    inbox.take("2.xml", feed_of(2, {"R2": "1.00"}))
+    inbox.decide("refuse", "2.xml")
+    inbox.desk = before
+    inbox.run()
+    inbox.clock += 2 * DAY
+    yield Outcome("told again", (len(first), inbox.run()), (1, first))
+
+
+def slips(_room: Room) -> Iterator[Outcome]:
+    """Numbers that nobody means to waive."""
+    refused = []
+    for word in ("41", "1-10000", "1-10001", "5-4", "0"):
+        try:
+            numbers_word(word)
+        except ValueError:
+            refused.append(word)
+    yield Outcome("refused", refused, ["1-10001", "5-4", "0"])
 
 
 def refused_by_a_person(room: Room) -> Iterator[Outcome]:

@@ -4,10 +4,11 @@ from collections.abc import Iterator
 from dataclasses import replace
 from typing import Any
 
+from onixdesk_shop.shop_json import Shop
 from tests.program.room import Room
 from tests.running import Outcome
 from tests.shop.feeds import Book, feed
-from tests.shop.inboxes import FakeInbox
+from tests.shop.inboxes import SHOP, FakeInbox
 
 BOOKS = [Book(number) for number in range(40)]
 
@@ -52,12 +53,12 @@ PASSES: dict[str, Feed] = {
 
 
 def behind_a_first_feed(
-    room: Room, name: str, books: Feed, has_shop: bool = True, **settings: Any
+    room: Room, name: str, books: Feed, shop: Shop | None = SHOP, **settings: Any
 ) -> tuple[FakeInbox, str]:
     folder = room.path(name.replace(" ", "-"))
     folder.mkdir()
     inbox = FakeInbox(folder, room.program, **settings)
-    inbox.shop = inbox.shop if has_shop else None
+    inbox.shop = shop
     inbox.places.rules.write_text(RULES)
     inbox.take("first.xml", feed(1, BOOKS))
     inbox.take("second.xml", feed(2, books, extra="" if books else "<NoProduct/>"))
@@ -71,11 +72,13 @@ def feeds_that_look_wrong(room: Room) -> Iterator[Outcome]:
         yield Outcome(name, behind_a_first_feed(room, name, books)[1], "applied")
 
 
-def without_desk_json(room: Room) -> Iterator[Outcome]:
-    """For whom the last feed was is asked for where no settings of the shop say it."""
-    for name in ("in another currency", "for another market", "all deleted"):
-        state = behind_a_first_feed(room, name, QUARANTINED[name], has_shop=False)[1]
-        yield Outcome(f"{name}, without desk.json", state, "quarantined")
+def for_whom_the_last_feed_was(room: Room) -> Iterator[Outcome]:
+    """That is asked for where no settings of the shop say it, and where these are for others."""
+    others = replace(SHOP, country="DE", currency="EUR")
+    for case, shop in ("without desk.json", None), ("desk.json is for others", others):
+        for name in ("in another currency", "for another market", "all deleted"):
+            state = behind_a_first_feed(room, f"{name}, {case}", QUARANTINED[name], shop)[1]
+            yield Outcome(f"{name}, {case}", state, "quarantined")
 
 
 def few_deletions_of_many(room: Room) -> Iterator[Outcome]:

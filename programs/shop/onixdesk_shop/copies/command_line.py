@@ -5,7 +5,7 @@ import time
 from pathlib import Path
 
 from onixdesk_shop.copies.copying import Copied, copy_desk
-from onixdesk_shop.copies.keeping import CORRECTIONS, UNFINISHED, free_name, keep_latest
+from onixdesk_shop.copies.keeping import CORRECTIONS, UNFINISHED, keep_latest, named
 from onixdesk_shop.desk_files import check
 from onixdesk_shop.ends import parser_of
 from onixdesk_shop.faults import DONE, Fault
@@ -72,7 +72,7 @@ def copy_by(machine: Machine, new: Path, folder: Path, options: argparse.Namespa
     if options.inboxes:
         copy_ledgers(machine, options.inboxes, new / LEDGERS)
     machine.sync_tree(new)
-    place = free_name(machine, folder, found.moment // 1_000_000_000) if options.keep else folder
+    place = folder / named(found.moment / 1e9) if options.keep else folder
     if machine.exists(place):
         raise Fault(f"{place}: it already exists")
     machine.rename(new, place)

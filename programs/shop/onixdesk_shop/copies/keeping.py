@@ -24,18 +24,6 @@ def named(second: float) -> str:
     return time.strftime(NAME, time.gmtime(second))
 
 
-def free_name(machine: Machine, folder: Path, second: int) -> Path:
-    """A free name for a copy: of that second, or of the first later one without a copy."""
-    while machine.exists(place := folder / named(second)):
-        second += 1
-    return place
-
-
-def copies_in(machine: Machine, folder: Path) -> list[Path]:
-    """The copies in a folder, the oldest first."""
-    return [path for path in machine.paths(folder, "*") if is_name(path.name)]
-
-
 def corrections_in(machine: Machine, folder: Path) -> list[str]:
     file = folder / CORRECTIONS
     return machine.read(file).decode().splitlines() if machine.exists(file) else []
@@ -50,7 +38,7 @@ def corrections_since(machine: Machine, desk: Path, copy: Path) -> list[str]:
 def keep_latest(machine: Machine, folder: Path, count: int, newest: Path) -> None:
     """Removes all but the latest copies. The newest stays, even if a clock that was ahead gave others later names. A
     copy gets a hidden name before it is removed, since a killed run would leave a part of it."""
-    others = [copy for copy in copies_in(machine, folder) if copy != newest]
+    others = [path for path in machine.paths(folder, "*") if is_name(path.name) and path != newest]
     # Corrections make several copies a day. All but the last of a day go first, so that earlier nights stay.
     doubled = [old for old, later in zip(others, [*others[1:], newest]) if old.name[:DAY] == later.name[:DAY]]
     others = [*doubled, *(copy for copy in others if copy not in doubled)]

@@ -29,6 +29,9 @@ Posts the files of a wholesaler's folder to a running desk, once each, in order:
     onixdesk-inbox report SERIES
 MARK is the beginning of the digest of a file, as the lines of an inbox have it."""
 
+# How many numbers are waived at once: more are a slip.
+MOST_NUMBERS = 10_000
+
 PATHS = {
     "settings": INBOX_SETTINGS,
     "incoming": INCOMING,
@@ -49,7 +52,7 @@ def series_word(word: str) -> str:
 def numbers_word(word: str) -> range:
     first, _, last = word.partition("-")
     found = range(int(first), int(last or first) + 1)
-    if not found or found[0] < 1 or found[-1] > 999_999_999:
+    if not found or found[0] < 1 or found[-1] > 999_999_999 or len(found) > MOST_NUMBERS:
         raise ValueError(word)
     return found
 

@@ -13,7 +13,7 @@ from onixdesk_shop.places import INCOMING, INBOXES, RULES, STATE, STORE
 from onixdesk_shop.settings import OWN, Settings
 from onixdesk_shop.shop_json import Shop
 
-HOUR = 3600
+HOUR, DAY = 3_600, 86_400
 
 
 class NotAgreed(Fault):
@@ -74,6 +74,11 @@ class Inbox:
     def is_let_in(self, file: File) -> bool:
         query = "SELECT count(*) FROM decision WHERE file = ? AND what = ?"
         return bool(self.ledger.value(query, file.id, Decision.LET_IN))
+
+    def is_silent(self) -> bool:
+        """Whether nothing was heard for days, since the inbox began if it never was."""
+        since = self.ledger.heard_at() or self.ledger.value("SELECT min(at) FROM decision")
+        return bool(self.machine.now() - since > self.settings.silent_days * DAY)
 
     # Lines
 

@@ -10,7 +10,7 @@ from dataclasses import dataclass, field
 from pathlib import Path
 
 from onixdesk_shop.batches import MOST_BYTES
-from onixdesk_shop.desk import Gaps, Refused, Taken
+from onixdesk_shop.desk import Gaps, Refused
 from onixdesk_shop.faults import BadEnd, Fault
 from onixdesk_shop.feeds import Refusal, Said, check, convert
 from onixdesk_shop.inbox import full, quarantine
@@ -60,7 +60,7 @@ def judge(inbox: Inbox, file: File, gaps: Gaps) -> None:
         quarantine_file(inbox, file, str(why))
     except BadEnd as end:
         # As far as we know, this is not the file's fault: a person lets it be tried again.
-        quarantine_file(inbox, file, f"its conversion failed: {end}")
+        quarantine_file(inbox, file, f"it cannot be judged: {end}")
     except (Fault, OSError, sqlite3.Error):
         raise
     except Exception as error:
@@ -166,7 +166,7 @@ def final_row(inbox: Inbox, file: File, number: int) -> Row | None:
     row = inbox.ledger.row(number)
     if not row or row.file == file.id:
         return None
-    is_kept = row.state == State.REFUSED and ('"unknown-series"' in row.answer or row.was_taken)
+    is_kept = row.state == State.REFUSED and (row.answer == "refused,unknown-series" or row.was_taken)
     return row if row.state in STANDING or is_kept else None
 
 
@@ -208,7 +208,6 @@ def post_again(inbox: Inbox, feed: Feed, others: dict[int, Row], gaps: Gaps) -> 
         answer = inbox.desk.post(text.text)
         if isinstance(answer, Refused):
             raise Refusal(why_refused(answer))
-        assert isinstance(answer, Taken)
     if not others.keys() >= {message.number for message in feed.messages}:
         return feed
     ledger.set_state(file, State.HAD, f"{first.mark} has its number")
@@ -234,8 +233,8 @@ def retry_refused(inbox: Inbox, gaps: Gaps) -> None:
     at their numbers, or had no place for."""
     ledger = inbox.ledger
     judge_anew(inbox, "state = 'refused' AND basis <> ?", inbox.basis(gaps.first))
-    reasons = "other-contents", "waived", "before-first", "held", "applied"
-    answers = " OR ".join(f"answer LIKE '%\"{reason}\"%'" for reason in reasons)
+    beginnings = "refused,other-contents", "refused,waived", "refused,before-first", "held", "applied"
+    answers = " OR ".join(f"answer LIKE '{beginning},%'" for beginning in beginnings)
     files = "file IN (SELECT id FROM file WHERE state = 'refused' AND why <> ?)"
     where = f"state = 'refused' AND text IS NOT NULL AND ({answers}) AND {files}"
     rows = ledger.messages(where, REASONS["unknown-series"])

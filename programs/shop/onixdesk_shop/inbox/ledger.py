@@ -75,7 +75,7 @@ class Row(NamedTuple):
     @property
     def was_taken(self) -> bool:
         """Whether the desk took its text, now or before."""
-        return bool(self.has_text) and self.answer.startswith(('{"answer": "held"', '{"answer": "applied"'))
+        return bool(self.has_text) and self.answer.startswith(("held,", "applied,"))
 
 
 @dataclass(frozen=True)
@@ -151,7 +151,7 @@ class Ledger:
                 self.set_of_file(known, time=min(time, known.time))
             if known.state == State.REFUSED and not self.is_final(known):
                 # Files that keep their number until the series is agreed also keep their place.
-                is_new &= not self.messages("file = ? AND answer LIKE '%\"unknown-series\"%'", known.id)
+                is_new &= not self.messages("file = ? AND answer = 'refused,unknown-series'", known.id)
                 self.set_of_file(known, time=time if is_new else min(time, known.time), ending=ending)
                 self.set_state(known, State.NEW, "its bytes were put there again")
             return self.file(known.id)
@@ -196,8 +196,7 @@ class Ledger:
     def last_taken(self) -> int | None:
         """The time of the latest file of which the desk has, may have or had something, at a number that we gave."""
         query = "SELECT max(time) FROM file JOIN message ON message.file = file.id WHERE ending <> '.csv'"
-        answers = ('{"answer": "held"%', '{"answer": "applied"%')
-        is_kept = " OR ".join(f"message.state = 'refused' AND answer LIKE '{answer}'" for answer in answers)
+        is_kept = "message.state = 'refused' AND (answer LIKE 'held,%' OR answer LIKE 'applied,%')"
         found: int | None = self.value(
             f"{query} AND (message.state IN ('ready', 'posted', 'held', 'applied') OR {is_kept})"
         )
@@ -290,9 +289,9 @@ class Ledger:
         return [row for row in found if row.number < gaps.next or row.state in new or gaps.lacks(row.number)]
 
     def last_final(self) -> int:
-        """The greatest number that a file has for good."""
+        """The greatest number that a file has for good, or that is waived."""
         found = [row.number for row in self.messages("1") if row.was_taken or row.state in STANDING]
-        return max(found, default=0)
+        return max([*found, *self.waived()], default=0)
 
     def next_number(self, gaps: Gaps, parts: int) -> int:
         """The number for a new file: above all given ones and all that the desk has, and the first of a whole group of

@@ -57,6 +57,7 @@ CREATE TABLE decision (
     subject TEXT NOT NULL DEFAULT ''        -- of what was told once, until it is well; of a file that is left
 ) STRICT;
 CREATE INDEX decision_by_subject ON decision (subject);
+INSERT INTO decision (at, what, subject) VALUES (unixepoch(), 'well', 'begun');
 
 CREATE TRIGGER a_number_has_one_text BEFORE UPDATE OF file, digest ON message
 WHEN old.state IN ('posted', 'held', 'applied') AND (new.file <> old.file OR new.digest <> old.digest)

@@ -1,7 +1,6 @@
 """Posts to the desk: only the ledger's text, in order of number."""
 
 import itertools
-import json
 
 from onixdesk_shop.desk import Gaps, Refused, Taken
 from onixdesk_shop.faults import Fault
@@ -18,10 +17,10 @@ QUICKER = "other-contents", "waived", "before-first"
 
 REASONS = {
     "unknown-series": "no series of its sender and addressee is agreed",
-    "before-first": "number {number} is below the first number of the series, {first}",
-    "waived": "number {number} was waived",
-    "other-contents": "the desk has another message of number {number}; a correction needs a number of its own",
-    "other-series": "it went into the series {series}, which has its sender and addressee",
+    "before-first": "number {1} is below the first number of the series, {2}",
+    "waived": "number {1} was waived",
+    "other-contents": "the desk has another message of number {1}; a correction needs a number of its own",
+    "other-series": "it went into the series {0}, which has its sender and addressee",
 }
 
 
@@ -31,7 +30,7 @@ class TextsGone(Fault):
 
 def why_refused(refused: Refused) -> str:
     try:
-        return REASONS[refused.reason].format_map(refused.members)
+        return REASONS[refused.reason].format(*refused.words)
     except KeyError:
         return f"the desk answers {cut(refused.said)}"
 
@@ -64,8 +63,7 @@ def post_row(inbox: Inbox, row: Row) -> None:
         inbox.ledger.set_message(row.number, State.POSTED)
     answer = inbox.desk.post(inbox.ledger.text(row.number))
     if isinstance(answer, Taken) and answer.series != inbox.series:
-        members = {"reason": "other-series", "series": answer.series}
-        answer = Refused("other-series", members, json.dumps({"answer": "refused", **members}))
+        answer = Refused("other-series", [answer.series])
     with inbox.ledger.step():
         if isinstance(answer, Taken):
             settle_taken(inbox, current, answer)
@@ -123,7 +121,7 @@ def retry_unknown(inbox: Inbox, gaps: Gaps) -> None:
     the first that it takes, files that no desk took before are judged anew, since there was nothing to compare them
     with."""
     ledger, is_agreed = inbox.ledger, False
-    is_tried = "state = 'refused' AND why = ? OR state = 'new' AND answer LIKE '%\"unknown-series\"%'"
+    is_tried = "state = 'refused' AND why = ? OR state = 'new' AND answer = 'refused,unknown-series'"
     files = f"file IN (SELECT id FROM file WHERE {is_tried})"
     refused = ledger.messages(f"state = 'refused' AND text IS NOT NULL AND {files}", REASONS["unknown-series"])
     for row in refused:
@@ -196,9 +194,9 @@ def settle_rejected(inbox: Inbox, gaps: Gaps) -> None:
         with ledger.step():
             ledger.set_message(row.number, State.REFUSED if is_given else State.RETURNED)
             ledger.forget_references(row.number)
-            judge_anew(inbox)
             if is_given:
                 ledger.decide(Decision.WAIVE, file, row.number)
+            judge_anew(inbox)
 
 
 def waive(inbox: Inbox, gaps: Gaps) -> Gaps:

@@ -6,7 +6,6 @@ from __future__ import annotations
 from typing import TYPE_CHECKING
 
 from onixdesk_shop.desk import Gaps
-from onixdesk_shop.faults import BadEnd
 from onixdesk_shop.inbox.comparing import Findings, look_at
 from onixdesk_shop.inbox.context import Inbox
 
@@ -32,11 +31,7 @@ def look(inbox: Inbox, feed: Feed, gaps: Gaps) -> None:
     judge_products(feed)
     if not inbox.settings.stop or gaps.greatest is None:
         return
-    try:
-        found = look_at(inbox, feed)
-    except BadEnd as end:
-        raise Quarantine(f"it cannot be judged: {end}") from None
-    if found:
+    if found := look_at(inbox, feed):
         judge_findings(inbox, *found)
 
 

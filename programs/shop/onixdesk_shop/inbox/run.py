@@ -3,14 +3,11 @@
 from onixdesk_shop.desk import Gaps, NoDesk
 from onixdesk_shop.faults import FAILED
 from onixdesk_shop.inbox import intake, keeping, posting, series_json, titles
-from onixdesk_shop.inbox.context import Inbox, NotAgreed
+from onixdesk_shop.inbox.context import DAY, Inbox, NotAgreed
 from onixdesk_shop.inbox.full import tell_in_a_row
 from onixdesk_shop.inbox.judging import agreement, judge, retry_refused
 from onixdesk_shop.inbox.ledger import File, State
 from onixdesk_shop.lines import ERROR, WARNING
-
-# How long a series may wait for a number.
-DAY = 86_400
 
 
 def run(inbox: Inbox) -> int:
@@ -81,8 +78,7 @@ def tell_waiting(inbox: Inbox, gaps: Gaps | None) -> None:
         inbox.tell_once(
             f"waits {gaps.next} {since}", ERROR, f"{command}; the series waits for number {gaps.next} for a day"
         )
-    heard = inbox.ledger.heard_at()
-    if heard is not None and inbox.machine.now() - heard > inbox.settings.silent_days * DAY:
+    if inbox.is_silent():
         inbox.tell_once("silent", ERROR, f"nothing came for {inbox.settings.silent_days} days but empty files")
     else:
         inbox.is_well("silent")

@@ -7,21 +7,18 @@ from onixdesk_shop.desk import Gaps
 from onixdesk_shop.inbox.context import Inbox
 from onixdesk_shop.settings import NEXT
 
-DAY = 86_400
-
 # How long the price types of messages are listed.
-KINDS_SECONDS = 120 * DAY
+KINDS_SECONDS = 120 * 86_400
 
 
 def members(inbox: Inbox, gaps: Gaps | None) -> dict[str, Any]:
     ledger, now = inbox.ledger, int(inbox.machine.now())
-    heard = ledger.heard_at()
     return {
         "version": 1,
         "at": now,
         "numbered": inbox.settings.number != NEXT,
         "desk": gaps is not None,
-        "silent": heard is not None and now - heard > inbox.settings.silent_days * DAY,
+        "silent": inbox.is_silent(),
         "waiting": ledger.count_waiting(gaps),
         "quarantined": ledger.value("SELECT count(*) FROM file WHERE state = 'quarantined'"),
         "refused": ledger.count_undecided(),
@@ -29,7 +26,7 @@ def members(inbox: Inbox, gaps: Gaps | None) -> dict[str, Any]:
         "next": gaps.next if gaps else None,
         "greatest": gaps.greatest if gaps else None,
         "taken_at": ledger.value("SELECT max(at) FROM file WHERE state = 'applied'"),
-        "heard_at": heard,
+        "heard_at": ledger.heard_at(),
         "prices": ledger.kinds_since(now - KINDS_SECONDS),
         "older_terms": ledger.count_older_terms(inbox.terms),
     }

@@ -61,11 +61,13 @@ loop-done-preserved g c =
     }
 
 pub returns-in_err-step : goal.returns-in_err-step
-returns-in_err-step g c = did_fail (search rules) c.loop-done.invariant.so_far c.in_err-step.ensures.does
+returns-in_err-step g c = record { applied = did_fail (search rules) c.loop-done.invariant.so_far c.in_err-step.ensures.does }
 
 pub returns : goal.returns
 returns g c =
     let all = take_all c.loop-done.done c.products-products.result.now c.loop-done-test.false in
-    did_as c.loop-done.invariant.so_far
-    (λ rows after one. λ m held.
-    let are = subst (λ l. AreApplied c.args.series.now m l no_effect rows c.loop-done.effect after) (all ∙ c.products-products.ensures.products) (one m held).1 in record { catalogue = are.catalogue; counts = are.counts; others = are.others })
+    record {
+      applied = did_as c.loop-done.invariant.so_far
+          (λ rows after one. λ m held.
+          let are = subst (λ l. AreApplied c.args.series.now m l no_effect rows c.loop-done.effect after) (all ∙ c.products-products.ensures.products) (one m held).1 in record { catalogue = are.catalogue; counts = are.counts; others = are.others });
+    }

@@ -7,4 +7,4 @@ use Rattle.desk_rows.proofs.applying.apply_standing.Goals as goal
 pub returns-in-Message : goal.returns-in-Message
 returns-in-Message g c =
     let products : List Product = c.in-Message.contents in
-    did_also c.apply_message.ensures (λ rows now effect one. message_applied c.args.series.now c.args.standing.now products effect rows now c.in-Message.is one)
+    did_also c.apply_message.ensures.applied (λ rows now effect one. message_applied c.args.series.now c.args.standing.now products effect rows now c.in-Message.is one)

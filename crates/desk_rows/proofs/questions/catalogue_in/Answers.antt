@@ -16,9 +16,9 @@ returns g c =
     let s = c.args.series.now in
     let Done : DeskRows → ByReference → DeskRows → Type 0 = λ rows m now. OnlyAnswers (λ L. catalogue_answer L s) rows (Some m) now in
     did_as {First = Done}
-    (did_then (called c.in_ok-found.ensures) c.in_ok-catalogue.ensures
+    (did_then (called c.in_ok-found.ensures) c.in_ok-catalogue.ensures.catalogue
     (λ rows between now m one two. one_catalogue s c.in-Some._row rows between now m one.1 two.0 (sym c.in-Some.is ∙ one.0) two.1))
     (λ rows now one. one)
 
 pub returns-in_err-catalogue : goal.returns-in_err-catalogue
-returns-in_err-catalogue g c = did_fail (search rules) (called c.in_ok-found.ensures) c.in_err-catalogue.ensures
+returns-in_err-catalogue g c = did_fail (search rules) (called c.in_ok-found.ensures) c.in_err-catalogue.ensures.catalogue

@@ -2,4 +2,4 @@ use Rattle.desk_stops.proofs.FileLemmas.{file_openings_are_events}
 use Rattle.desk_stops.proofs.clauses.file_openings_are_events.Goals as goal
 
 pub returns : goal.returns
-returns g c rules = file_openings_are_events g.D.Disk rules
+returns g c = file_openings_are_events g.D.Disk

@@ -2,4 +2,4 @@ use Rattle.desk_stops.proofs.FileLemmas.{files_are_left}
 use Rattle.desk_stops.proofs.clauses.files_are_left.Goals as goal
 
 pub returns : goal.returns
-returns g c rules = files_are_left g.D.Disk rules
+returns g c = files_are_left g.D.Disk

@@ -16,10 +16,10 @@ returns-in_err-commit g c =
     let new = state_of g.S.Store c.commit.new.self.0 in
     let result = c.from_residual-in_err-commit.result in
     let same : result ≡ Err c.in_err-commit.field-0.0 = search rules in
-    subst (λ x. Finishes old new c.args.work.spent x result) (sym c.in_ok-answer.was) (inr (c.in_err-commit.field-0.0, same, c.in_err-commit.ensures))
+    subst (λ x. Finishes old new c.args.work.spent x result) (sym c.in_ok-answer.was) (inr (c.in_err-commit.field-0.0, same, c.in_err-commit.ensures.end))
 
 pub returns : goal.returns
 returns g c =
     let old = seen g.S.Store c.args.work in
     let new = state_of g.S.Store c.commit.new.self.0 in
-    subst (λ x. Finishes old new c.args.work.spent x (Ok c.in_ok-answer.answer)) (sym c.in_ok-answer.was) (inl (refl, c.in_ok-commit.ensures))
+    subst (λ x. Finishes old new c.args.work.spent x (Ok c.in_ok-answer.answer)) (sym c.in_ok-answer.was) (inl (refl, c.in_ok-commit.ensures.end))

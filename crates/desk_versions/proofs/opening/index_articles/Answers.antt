@@ -26,4 +26,4 @@ returns g c = λ rows.
     let s3 = state g.S.Store c.commit.new.self.0.connection in
     let same : c.commit.new.self.0 ≡ c.tables-2-1.given.0 = search (rules, (c.in_ok-index_articles.ensures rows).same_reference) in
     subst (λ t. MakesAll (λ db. HoldsUnindexed db rows) (λ db. Holds db rows) s0 (state g.S.Store t.connection) c.commit.result) same
-    (made_ended (λ db. HoldsUnindexed db rows) (λ db. Holds db rows) c.in_ok-work.work s0 s1 s2 s3 c.in_ok-work.work.spent c.index_articles.new.self.spent c.in_ok-work.ensures.begun (Ok c.in_ok-index_articles.field-0) (c.in_ok-index_articles.ensures rows).makes c.in_ok-index_articles.field-0 refl c.commit.result c.commit.ensures.ends c.commit.ensures.durable)
+    (made_ended (λ db. HoldsUnindexed db rows) (λ db. Holds db rows) c.in_ok-work.work s0 s1 s2 s3 c.in_ok-work.work.spent c.index_articles.new.self.spent c.in_ok-work.ensures.begun (Ok c.in_ok-index_articles.field-0) (c.in_ok-index_articles.ensures rows).makes c.in_ok-index_articles.field-0 refl c.commit.result c.commit.ensures.end.ends c.commit.ensures.end.durable)

@@ -40,7 +40,7 @@ returns-clause-makes g c = λ rows.
     let s3 = state g.S.Store c.commit.new.self.0.connection in
     let same : c.commit.new.self.0 ≡ c.tables-2-1.given.0 = search rules in
     subst (λ t. MakesAll (λ db. HoldsFirst db rows) (λ db. Holds db (with_version 2 rows)) s0 (state g.S.Store t.connection) c.commit.result) same
-    (made_ended (λ db. HoldsFirst db rows) (λ db. Holds db (with_version 2 rows)) c.in_ok-work.work s0 s1 s2 s3 c.in_ok-work.work.spent c.migrate.new.self.spent c.in_ok-work.ensures.begun (Ok c.in_ok-migrate.field-0) (c.in_ok-migrate.ensures.migrates rows) c.in_ok-migrate.field-0 refl c.commit.result c.commit.ensures.ends c.commit.ensures.durable)
+    (made_ended (λ db. HoldsFirst db rows) (λ db. Holds db (with_version 2 rows)) c.in_ok-work.work s0 s1 s2 s3 c.in_ok-work.work.spent c.migrate.new.self.spent c.in_ok-work.ensures.begun (Ok c.in_ok-migrate.field-0) (c.in_ok-migrate.ensures.migrates rows) c.in_ok-migrate.field-0 refl c.commit.result c.commit.ensures.end.ends c.commit.ensures.end.durable)
 
 pub returns-clause-again : goal.returns-clause-again
 returns-clause-again g c =
@@ -50,4 +50,4 @@ returns-clause-again g c =
     let s3 = state g.S.Store c.commit.new.self.0.connection in
     let same : c.commit.new.self.0 ≡ c.tables-2-1.given.0 = search rules in
     subst (λ t. MakesAll (λ db. db.schema ≡ desk_schema) (λ _. ⊥) s0 (state g.S.Store t.connection) c.commit.result) same
-    (made_ended (λ db. db.schema ≡ desk_schema) (λ _. ⊥) c.in_ok-work.work s0 s1 s2 s3 c.in_ok-work.work.spent c.migrate.new.self.spent c.in_ok-work.ensures.begun (Ok c.in_ok-migrate.field-0) c.in_ok-migrate.ensures.again c.in_ok-migrate.field-0 refl c.commit.result c.commit.ensures.ends c.commit.ensures.durable)
+    (made_ended (λ db. db.schema ≡ desk_schema) (λ _. ⊥) c.in_ok-work.work s0 s1 s2 s3 c.in_ok-work.work.spent c.migrate.new.self.spent c.in_ok-work.ensures.begun (Ok c.in_ok-migrate.field-0) c.in_ok-migrate.ensures.again c.in_ok-migrate.field-0 refl c.commit.result c.commit.ensures.end.ends c.commit.ensures.end.durable)

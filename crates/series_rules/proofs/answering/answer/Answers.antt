@@ -1,6 +1,6 @@
 use Rattle.std.proofs.Common.{refl}
 use Rattle.series_rules.specs.declared.requests.Request.TheVariants.{AskPrice, AskChoice, AskCalendar, AskGaps, AskCatalogue, Malformed}
-use Rattle.series_rules.proofs.ViewLemmas.{asks_of, tells_unasked}
+use Rattle.series_rules.proofs.ViewLemmas.{asks_of, only_unasked}
 use Rattle.series_rules.proofs.answering.answer.Goals as goal
 
 pub returns-in-AskPrice : goal.returns-in-AskPrice
@@ -19,4 +19,4 @@ pub returns-in-AskCatalogue : goal.returns-in-AskCatalogue
 returns-in-AskCatalogue g c = rw c.in-AskCatalogue.is (record { asks = asks_of (AskCatalogue c.in-AskCatalogue.series) _ _ _ _ refl c.answer_catalogue.ensures })
 
 pub returns-in-Malformed : goal.returns-in-Malformed
-returns-in-Malformed g c = rw c.in-Malformed.is (record { asks = asks_of (Malformed c.in-Malformed.row) _ _ _ _ refl (tells_unasked _ _ _ (λ L. refl)) })
+returns-in-Malformed g c = rw c.in-Malformed.is (record { asks = asks_of (Malformed c.in-Malformed.row) _ _ _ _ refl (only_unasked _ _ _ (λ L. refl)) })

@@ -448,7 +448,9 @@ class Model(RuleBasedStateMachine):
         whole = sorted((sent for sent in self.sent.values() if sent.is_whole), key=lambda sent: sent.time)
         judged = [sent for sent in whole if sent not in waiting]
         if self.is_next:
-            self.check_next(series, judged)
+            # What a file in quarantine keeps, since a later number is waived, waits for a person.
+            kept = inbox.ledger.messages("file IN (SELECT id FROM file WHERE state = 'quarantined')")
+            self.check_next(series, judged, {row.number for row in kept})
             if not self.is_restored:
                 self.check_prices(series)
         else:
@@ -553,11 +555,11 @@ class Model(RuleBasedStateMachine):
         """The desk's numbers of one of the sender's."""
         return range((number - 1) * self.parts + 1, number * self.parts + 1)
 
-    def check_next(self, series: Series, judged: list[Sent]) -> None:
+    def check_next(self, series: Series, judged: list[Sent], kept: set[int]) -> None:
         """The contents by number are those of the files in order of their times, but for what a person let in later; what
         a person refused is waived, or stays."""
         had = [bare(series.had[number]) for number in sorted(series.had)]
-        assert sorted(series.had) == list(range(1, len(had) + 1)), series.had
+        assert {*range(1, max(series.had, default=0))} <= series.had.keys() | kept, series.had
         ordered = [sent for sent in judged if not sent.is_let_in]
         others = [sent for sent in judged if sent.is_let_in]
         for at in range(0, len(had), self.parts):

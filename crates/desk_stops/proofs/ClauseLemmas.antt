@@ -32,6 +32,6 @@ asked rules r made given is (Err f) old new it = record {
   fault = it.fault;
 }
 
-pub calls_are_steps : {D X : Type 0} {k : DeskKind} (seen : D → View k) (rules : List Rule) → CallsAreSteps {X = X} seen rules
+pub calls_are_steps : {D X : Type 0} {k : DeskKind} (seen : D → View k) (rules : List Rule) → CallsAreSteps X seen rules
 calls_are_steps seen rules r made given is o old new (inl asks) = asked rules r made given is o (seen old) (seen new) asks
 calls_are_steps seen rules r made given is o old new (inr (asks, only)) = asked rules r made given is o (seen old) (seen new) (asks_of r given (seen old) (seen new) o asks only)

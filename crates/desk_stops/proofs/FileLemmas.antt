@@ -31,7 +31,7 @@ held_empty image d both (db, same, none) = inr (db, subst (λ t. ∥ HoldsDataba
 
 module _ {D : Type 0} (g : disk.Ghosts D) where
   abbrev Found : Trees → List Request → Type 0
-  Found = IsFoundFor {in_tables} HaveNoTable
+  Found = IsFoundFor in_tables HaveNoTable
 
   found_files : (image : Image) (found : Trees) → AreFilesAt image found → (L : List Request) → Found found L → AreFilesOf image L
   found_files image found (inl both) L (inl comes) = inl (found, both, come_rows found L comes)

@@ -21,11 +21,11 @@ stopped_in k kept doubted r false none x came = inr (r, (zero, omega arith, refl
 
 module _ {D : Type 0} {k : DeskKind} (seen : D → View k) (rules : List Rule) (IsEmpty : k.Left → Type 0) where
   -- what is left is that of the list, or of the list with one that was in doubt
-  of_list : (kept doubted : List Request) (x : k.Left) → HasAll k kept doubted x → (M : List Request) × HasAtMostOne kept doubted M × IsFoundFor IsEmpty x M
+  of_list : (kept doubted : List Request) (x : k.Left) → HasAll k kept doubted x → (M : List Request) × HasAtMostOne kept doubted M × IsFoundFor k IsEmpty x M
   of_list kept doubted x (inl comes) = (kept, inl refl, inl comes)
   of_list kept doubted x (inr (r, among, comes)) = (r ∷ kept, inr (r, among, refl), inl comes)
 
-  module _ (found : k.Left) (L : List Request) (is : IsFoundFor IsEmpty found L) (steps : List Step) (desk : D) (opened : IsOpen seen rules IsEmpty found steps desk) where
+  module _ (found : k.Left) (L : List Request) (is : IsFoundFor k IsEmpty found L) (steps : List Step) (desk : D) (opened : IsOpen seen rules IsEmpty found steps desk) where
     sound_first : (seen opened.first).sound
     sound_first = trace_premise seen rules steps opened.first desk opened.were_asked opened.sound
 
@@ -46,7 +46,7 @@ module _ {D : Type 0} {k : DeskKind} (seen : D → View k) (rules : List Rule) (
         go (inl before) = more_doubted k rules (with_answered L steps) (in_doubt L steps) r (is_question r) x (at_stop x before)
         go (inr (changes, came)) = stopped_in k (with_answered L steps) (in_doubt L steps) r (is_question r) changes x came
 
-    ended : (end : End) (x : k.Left) → Ends seen rules IsEmpty desk end x → (M : List Request) × HasAtMostOne (with_answered L steps) (doubted_at end L steps) M × IsFoundFor IsEmpty x M
+    ended : (end : End) (x : k.Left) → Ends seen rules IsEmpty desk end x → (M : List Request) × HasAtMostOne (with_answered L steps) (doubted_at end L steps) M × IsFoundFor k IsEmpty x M
     ended Closing x closes = (with_answered L steps, inl refl, closes (with_answered L steps) followed.stands)
     ended Stop x may = of_list (with_answered L steps) (in_doubt L steps) x (at_stop x may)
     ended (StopInside r) x (last, sound, adds, may) = of_list (with_answered L steps) (doubted_at (StopInside r) L steps) x (inside r (seen last) adds x may)
@@ -56,7 +56,7 @@ module _ {D : Type 0} {k : DeskKind} (seen : D → View k) (rules : List Rule) (
     answered r (Err f) next asks sound = tt
 
   pub what_is_left_is_effective : WhatIsLeftIsEffective seen rules IsEmpty
-  what_is_left_is_effective L0 found at_first [] left same = (L0, refl, subst (λ x. IsFoundFor IsEmpty x L0) (sym same) at_first)
+  what_is_left_is_effective L0 found at_first [] left same = (L0, refl, subst (λ x. IsFoundFor k IsEmpty x L0) (sym same) at_first)
   what_is_left_is_effective L0 found at_first (FailedOpening ∷ h) left (before, runs, keeps) =
       let was = what_is_left_is_effective L0 found at_first h before runs in
       (was.0, was.1, keeps was.0 was.2)

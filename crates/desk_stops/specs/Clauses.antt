@@ -15,8 +15,9 @@ outcome made (Err f) = Err f
 
 -- Each way out of a call of a desk, which gives X, of which the answer to a request is made, is one
 -- of that request. So it is with `agree`, `deliver` and `waive`, and with the calls that only ask.
-abbrev pub CallsAreSteps : {D X : Type 0} → {k : DeskKind} → (D → View k) → List Rule → Type 0
-CallsAreSteps {D} {X} seen rules =
+abbrev pub CallsAreSteps : {D : Type 0} → {k : DeskKind} → Type 0 → (D → View k) → List Rule
+    → Type 0
+CallsAreSteps {D} X seen rules =
     (r : Request) (made : X → Answer) (given : List Request → X)
     → ((L : List Request) → answer_to rules L r ≡ made (given L))
     → (o : Result X StoreFault) (old new : D)

@@ -42,24 +42,24 @@ module _ {D : Type 0} {k : DeskKind} (seen : D → View k) (rules : List Rule)
   -- changed the desk. It explains all answers
   abbrev pub WhatIsOpenedIsEffective : Type 0
   WhatIsOpenedIsEffective =
-      (L0 : List Request) (found : k.Left) → IsFoundFor IsEmpty found L0
+      (L0 : List Request) (found : k.Left) → IsFoundFor k IsEmpty found L0
       → (h : List Event) (before : k.Left) → Runs seen rules IsEmpty found h before
-      → (desk : D) → Opens IsEmpty before (seen desk) → (seen desk).sound
+      → (desk : D) → Opens k IsEmpty before (seen desk) → (seen desk).sound
       → (L : List Request) × IsEffective rules L0 h L × (seen desk).stands_for L
       × LeavesOnly (seen desk) L
 
   -- what a stop, a closing or an opening without a desk leaves is that of an effective list
   abbrev pub WhatIsLeftIsEffective : Type 0
   WhatIsLeftIsEffective =
-      (L0 : List Request) (found : k.Left) → IsFoundFor IsEmpty found L0
+      (L0 : List Request) (found : k.Left) → IsFoundFor k IsEmpty found L0
       → (h : List Event) (left : k.Left) → Runs seen rules IsEmpty found h left
-      → (L : List Request) × IsEffective rules L0 h L × IsFoundFor IsEmpty left L
+      → (L : List Request) × IsEffective rules L0 h L × IsFoundFor k IsEmpty left L
 
   -- an open desk stands for an effective list with what was answered since, and answers each
   -- further request, or one that comes again, as a desk that was never stopped does after that list
   abbrev pub AnsweredAsIfNeverStopped : Type 0
   AnsweredAsIfNeverStopped =
-      (L0 : List Request) (found : k.Left) → IsFoundFor IsEmpty found L0
+      (L0 : List Request) (found : k.Left) → IsFoundFor k IsEmpty found L0
       → (h : List Event) (before : k.Left) → Runs seen rules IsEmpty found h before
       → (steps : List Step) (desk : D) → IsOpen seen rules IsEmpty before steps desk
       → (L : List Request) × IsEffective rules L0 h L × AreTrue rules L steps

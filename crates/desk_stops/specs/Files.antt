@@ -32,7 +32,7 @@ AreFilesAt image found = ∥ HoldsDatabase image found ∥₁ ⊎ ((image.db ≡
 pub record FileOpeningsAreEvents {D : Type 0} (g : disk.Ghosts D) : Type 0 where
   -- what is found for a list are files of it
   pub found : (image : Image) (found : Trees) → AreFilesAt image found
-      → (L : List Request) → IsFoundFor {in_tables} HaveNoTable found L
+      → (L : List Request) → IsFoundFor in_tables HaveNoTable found L
       → AreFilesOf image L
   -- with a desk, by its clauses `stands` and `alone`
   pub ok : (image : Image) (found : Trees) (new : Held (FileStore D g)) → AreFilesAt image found
@@ -41,13 +41,13 @@ pub record FileOpeningsAreEvents {D : Type 0} (g : disk.Ghosts D) : Type 0 where
       → KeepsRequests (file_state new) L)
       → (HasCleanDisk (file_state new) → (L : List Request) → AreFilesOf image L → (left : Trees)
       → (file_state new).may_leave left → AreRowsOf left L)
-      → Opens HaveNoTable found (seen_in (file_state new))
+      → Opens in_tables HaveNoTable found (seen_in (file_state new))
   -- with a fault, by its clause `left` (`KeepsFiles`), where a store is left of the files
   pub failed : (image : Image) (found : Trees) (it : FileStore D g) → AreFilesAt image found
       → (IsCleanLeft (leftover.Store it) → SparesFiles MakesIndex image (recovers it))
       → IsCleanLeft (leftover.Store it)
       → (left : Trees) → recovers it left
-      → KeepsFound {in_tables} HaveNoTable found left
+      → KeepsFound in_tables HaveNoTable found left
 
 -- what a stop and a closing leave of the files, at which the next opening is an event
 pub record FilesAreLeft {D : Type 0} (g : disk.Ghosts D) : Type 0 where
@@ -63,7 +63,7 @@ pub record FilesAreLeft {D : Type 0} (g : disk.Ghosts D) : Type 0 where
       → (AreClean g files.log files.db → IsCopied old files)
       → AreClean g files.log files.db
       → AreFilesAt (image_of g files) (file_state old).committed.trees
-      × Closes HaveNoTable (seen_in (file_state old)) (file_state old).committed.trees
+      × Closes in_tables HaveNoTable (seen_in (file_state old)) (file_state old).committed.trees
   -- a closing that failed, or that a stop came into, is a stop: it leaves what a stop before it may
   -- leave
   pub failed : (old : Held (FileStore D g)) (last : FileStore D g) → IsClosed old last

@@ -29,7 +29,7 @@ AddsAtMost {k} r old new =
     → old.may_leave x ⊎ ((is_question r ≡ false) × k.comes_to x (r ∷ L))
 
 -- Is empty: nothing was kept yet
-module _ {k : DeskKind} (IsEmpty : k.Left → Type 0) where
+module _ (k : DeskKind) (IsEmpty : k.Left → Type 0) where
   -- what is found is that of those requests: what they come to, or it is empty and they are none
   abbrev pub IsFoundFor : k.Left → List Request → Type 0
   IsFoundFor x L = k.comes_to x L ⊎ (IsEmpty x × (L ≡ []))
@@ -54,14 +54,14 @@ module _ {D : Type 0} {k : DeskKind} (seen : D → View k) (rules : List Rule)
   -- call kept its clause, and the premise holds.
   pub record IsOpen (found : k.Left) (steps : List Step) (desk : D) : Type 0 where
     pub first : D
-    pub opens : Opens IsEmpty found (seen first)
+    pub opens : Opens k IsEmpty found (seen first)
     pub were_asked : Asked seen rules first desk steps
     pub sound : (seen desk).sound
 
   -- so it ended, and left that. Where a stop came inside a call, `last` is the desk as it then was:
   -- what a stop may leave of it is what the call promises of an answer and of a fault alike
   abbrev pub Ends : D → End → k.Left → Type 0
-  Ends desk Closing left = Closes IsEmpty (seen desk) left
+  Ends desk Closing left = Closes k IsEmpty (seen desk) left
   Ends desk Stop left = (seen desk).may_leave left
   Ends desk (StopInside r) left =
       (last : D) × (seen last).sound × AddsAtMost r (seen desk) (seen last)
@@ -70,7 +70,7 @@ module _ {D : Type 0} {k : DeskKind} (seen : D → View k) (rules : List Rule)
   -- the event led from what was found to what was left
   abbrev pub Happens : k.Left → Event → k.Left → Type 0
   Happens found (Used steps end) left = (desk : D) × IsOpen found steps desk × Ends desk end left
-  Happens found FailedOpening left = KeepsFound IsEmpty found left
+  Happens found FailedOpening left = KeepsFound k IsEmpty found left
 
   -- those events led there from what was found at first
   abbrev pub Runs : k.Left → List Event → k.Left → Type 0

@@ -11,7 +11,7 @@ use sqlite_disk::Disk;
 /// What `agree`, `deliver`, `waive` and each question promise makes each way out of them one of a
 /// request, as `answer` asks it: a step.
 pub fn calls_are_steps<D: Desk, X>()
-    ensures { (rules : List Rule) → CallsAreSteps {X = X} D.seen rules }
+    ensures { (rules : List Rule) → CallsAreSteps X D.seen rules }
 {}
 
 /// At files that hold a database, or whose database has no byte yet, the clauses of an opening of

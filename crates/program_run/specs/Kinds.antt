@@ -28,7 +28,7 @@ use Rattle.program_run.specs.ConvertEnds.{ConvertEnds}
 use Rattle.program_run.specs.ListingEnds.{ListingEnds}
 use Rattle.program_run.specs.OverFiles.{EndsOverFiles, IsUntouched, MigrateEnds, creation_by}
 use Rattle.program_run.specs.TaskEnds.{TaskEnds}
-use Rattle.program_run.specs.Unread.{IsUnread, ReadsRules}
+use Rattle.program_run.specs.Unread.{IsNoCommand, ReadsRules}
 use Rattle.program_run.specs.declared.machine.Machine.{Machine}
 
 -- Seen: what is seen of a desk in memory. Files: what is seen of the files that `databases` opens.
@@ -67,7 +67,7 @@ module _ {M : Type 0} {m : DeskKind} (seen : M → View m) {K : Type 0} {k : Des
   RunEnds words ended =
       ((invocation : Invocation) × Reads (map (λ word. word.now) words) (reading.Run invocation)
       × InvocationEnds invocation ended)
-      ⊎ (IsUnread Written (map (λ word. word.now) words) result.0 × NoFileIsTouched)
+      ⊎ (IsNoCommand Written (map (λ word. word.now) words) result.0 × NoFileIsTouched)
 
   -- ---- actions
 

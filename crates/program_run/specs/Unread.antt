@@ -26,6 +26,6 @@ UnreadEnds written reading.Memory status = (status ≡ 3) × written []
 UnreadEnds written _ status = (status ≡ 2) × written []
 
 -- these words are no command line, and end so
-abbrev pub IsUnread : (List ℕ → Type 0) → List (List ℕ) → ℕ → Type 0
-IsUnread written words status =
+abbrev pub IsNoCommand : (List ℕ → Type 0) → List (List ℕ) → ℕ → Type 0
+IsNoCommand written words status =
     (read : Reading) × Reads words read × UnreadEnds written read status

@@ -4,7 +4,7 @@ ghost use Rattle.std.specs.Prelude.{◌≡◌, ◌≤◌, IfErr, IfOk, map};
 ghost use Rattle.std.specs.Io.KnownBytes.{Appends};
 ghost use Rattle.program_run.specs.Kinds.{ActionEnds, BatchRun, CheckRun, ConvertRun, DeliverRun, GapsRun, ListRun, MigrateRun, RunEnds, SendRun, ServeRun};
 ghost use Rattle.program_run.specs.TaskEnds.{NewDeskEnds, TaskLeads};
-ghost use Rattle.program_run.specs.Unread.{IsUnread, ReadsRules};
+ghost use Rattle.program_run.specs.Unread.{IsNoCommand, ReadsRules};
 ghost use Rattle.program_words.specs.Asked.{Reads};
 ghost use Rattle.program_run.specs.OverFiles.{EndsOverFiles, creation_by};
 
@@ -210,7 +210,7 @@ fn read_words<'a, R, W: Write, E: Write>(
 ) -> Result<Invocation<'a>, u8>
     ensures ok { IfOk result (λ invocation. (streams.new ≡ streams.old)
         × Reads (map (λ word. word.now) words.entry.now) (Reading.Run invocation)) }
-    ensures err { IfErr result (λ status. IsUnread
+    ensures err { IfErr result (λ status. IsNoCommand
         (Appends (W.contents streams.old.output) (W.contents streams.new.output))
         (map (λ word. word.now) words.entry.now) status) }
     ensures most { IfErr result (λ status. status ≤ 3) }

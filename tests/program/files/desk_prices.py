@@ -3,6 +3,7 @@
 import json
 import time
 from collections.abc import Iterator
+from typing import Any
 
 from onixdesk_shop.machine import Machine
 from onixdesk_shop.prices.rows import may_be_old
@@ -68,10 +69,10 @@ def run(room: Room, *words: str) -> Ran:
     return room.call([ROOT / "bin/desk-prices", *places, "--day", "20250310", *words, DATABASE, "till"])
 
 
-# How the inbox of north stands, with nothing that waits.
-SHOWN = {"desk": True, "silent": False, "next": 2, "greatest": 1} | dict.fromkeys(
-    ("quarantined", "refused", "waiting"), 0
-)
+# How the inbox of north stands, of which nothing waits; and each value by which its rows may be old.
+SHOWN: dict[str, Any] = {"desk": True, "silent": False, "next": 2, "greatest": 1}
+SHOWN |= dict.fromkeys(("quarantined", "refused", "waiting"), 0)
+OLD = {"desk": False, "silent": True, "greatest": 3, "quarantined": 1, "refused": 1, "waiting": 1}
 
 
 def a_file_of_prices(room: Room) -> Iterator[Outcome]:
@@ -99,14 +100,7 @@ def a_file_of_prices(room: Room) -> Iterator[Outcome]:
 
 
 def rows_that_may_be_old(room: Room) -> Iterator[Outcome]:
-    """Those of a series of which something waits, or nobody knows."""
-    machine = Machine("test")
-    for name, more in {
-        "nothing waits": {},
-        "no desk": {"desk": False},
-        "silent": {"silent": True},
-        "a missing number": {"greatest": 3},
-        **{f"a file is {name}": {name: 1} for name in ("quarantined", "refused", "waiting")},
-    }.items():
-        room.write("north.json", json.dumps({"at": machine.now()} | SHOWN | more).encode())
-        yield Outcome(name, bool(may_be_old(machine, room.path("north.json"))), name != "nothing waits")
+    machine, path = Machine("test"), room.path("north.json")
+    for name, value in [("version", 1), *OLD.items()]:
+        path.write_text(json.dumps(SHOWN | {"at": machine.now(), name: value}))
+        yield Outcome(f"{name} is {value}", bool(may_be_old(machine, path)), name in OLD)

@@ -11,7 +11,7 @@ from onixdesk_shop.settings import NEXT
 from tests.program.inbox.files import inbox_in, price_of
 from tests.program.room import Room
 from tests.running import Outcome
-from tests.shop.fake_desk import WAIVED, FakeDesk, Series
+from tests.shop.fake_desk import FakeDesk, Series
 from tests.shop.fake_machine import FakeMachine, Killed
 from tests.shop.fake_program import SENDER, feed_of, message_of, product_of
 from tests.shop.inboxes import SHOP, START
@@ -140,16 +140,20 @@ def numbered_anew(room: Room) -> Iterator[Outcome]:
 
 
 def given_up(room: Room) -> Iterator[Outcome]:
-    """Below a number that is waived, since a person refused its file, what waits for an agreement keeps its own."""
-    inbox = inbox_in(room, "given up", number=NEXT)
+    """A number below one that is waived, since a person refused its file, stays its file's, and is waived once a full file
+    replaces that."""
+    inbox = inbox_in(room, "given up", number=NEXT, full=1)
     inbox.series.parties = (*SENDER, *ADDRESSEE)
-    for place in (1, 2):
-        inbox.take(f"{place}.xml", feed_of(place, {"R1": f"{place}.00"}))
-    inbox.decide("refuse", "2.xml")
+    for place, price in enumerate(("4.50", "1000.00", "5.00"), 1):
+        inbox.take(f"{place}.xml", feed_of(None, {f"R{each}": price for each in range(12)}))
+    inbox.decide("refuse", "3.xml")
     inbox.series.parties = (*SENDER, "", "")
     inbox.run()
-    found = sorted(inbox.series.had), inbox.series.had.get(2), price_of(inbox, "R1")
-    yield Outcome("its number", found, ([1, 2], WAIVED, "1.000"))
+    found = sorted(inbox.series.had), inbox.states()["2.xml"], price_of(inbox, "R1")
+    yield Outcome("below", found, ([1, 3], "quarantined", "4.500"))
+    inbox.take("4.xml", feed_of(None, {f"R{each}": "6.00" for each in range(12)}))
+    inbox.run()
+    yield Outcome("replaced", (inbox.series.next, price_of(inbox, "R1")), (5, "6.000"))
 
 
 def tried_again(room: Room) -> Iterator[Outcome]:

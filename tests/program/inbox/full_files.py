@@ -50,6 +50,8 @@ def deleted(room: Room) -> Iterator[Outcome]:
     yield Outcome("too many", (inbox.states()["b.xml"], len(named(inbox))), ("quarantined", 60))
     send_all(inbox, c=books(*range(55)))
     yield Outcome("a newer one takes its place", (inbox.states()["b.xml"], len(named(inbox))), ("replaced", 55))
+    lines = inbox.take("again.xml", feed_of(None, books(*range(40)), sent="b"))
+    yield Outcome("its bytes again are told", (len(lines), inbox.states()["again.xml"]), (1, "replaced"))
     inbox = inbox_in(room, "let in", full=1, stop=False)
     send_all(inbox, a=books(*range(60)), b=books(*range(40)))
     yield Outcome("too many, whatever STOP says", inbox.states()["b.xml"], "quarantined")

@@ -71,7 +71,7 @@ def command_line() -> argparse.ArgumentParser:
     parser.add_argument("series", metavar="SERIES", type=series_word)
     if name == "waive":
         parser.add_argument("--back", action="store_true", help="does not waive it again")
-        parser.add_argument("numbers", metavar="NUMBER", type=numbers_word, help="or FIRST-LAST")
+        parser.add_argument("numbers", metavar="NUMBER", type=numbers_word, help=f"or FIRST-LAST, up to {MOST_NUMBERS}")
     if name == "show":
         what = parser.add_mutually_exclusive_group(required=True)
         what.add_argument("--number", metavar="N", type=int)

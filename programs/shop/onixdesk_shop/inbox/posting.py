@@ -15,6 +15,7 @@ ROUNDS = 3
 # Why a number that was free a moment ago now has another message.
 QUICKER = "other-contents", "waived", "before-first"
 
+# After a reason the desk says its series, the number, and the first number.
 REASONS = {
     "unknown-series": "no series of its sender and addressee is agreed",
     "before-first": "number {1} is below the first number of the series, {2}",
@@ -123,8 +124,7 @@ def retry_unknown(inbox: Inbox, gaps: Gaps) -> None:
     ledger, is_agreed = inbox.ledger, False
     is_tried = "state = 'refused' AND why = ? OR state = 'new' AND answer = 'refused,unknown-series'"
     files = f"file IN (SELECT id FROM file WHERE {is_tried})"
-    refused = ledger.messages(f"state = 'refused' AND text IS NOT NULL AND {files}", REASONS["unknown-series"])
-    for row in refused:
+    for row in ledger.messages(f"state = 'refused' AND text IS NOT NULL AND {files}", REASONS["unknown-series"]):
         file = ledger.file(row.file)
         if row.number < gaps.first or file.state == State.POSTING or is_agreed and not ledger.is_final(file):
             continue
@@ -182,12 +182,13 @@ def begin_again(inbox: Inbox, file: File) -> None:
 
 
 def settle_rejected(inbox: Inbox, gaps: Gaps) -> None:
-    """If a person refused a file that the desk lacks, its numbers are free. If the inbox gives numbers, they are
-    waived, so that nothing waits for them."""
+    """If a person refused a file, or a full file replaced it, and the desk lacks it, its numbers are free. If the inbox
+    gives numbers, they are waived, so that nothing waits for them."""
     ledger = inbox.ledger
     waived = "SELECT number FROM decision WHERE what = 'waive' AND decision.file = message.file"
     is_over = f"state = 'returned' OR state = 'refused' AND number IN ({waived})"
-    rows = ledger.messages(f"NOT ({is_over}) AND file IN (SELECT id FROM file WHERE state = 'rejected')")
+    files = "SELECT id FROM file WHERE state IN ('rejected', 'replaced')"
+    rows = ledger.messages(f"NOT ({is_over}) AND file IN ({files})")
     for row in [row for row in rows if gaps.lacks(row.number)]:
         file = ledger.file(row.file)
         is_given = inbox.settings.gives_number(file.ending)

@@ -37,7 +37,7 @@ def of_file(inbox: Inbox, file: File) -> list[str]:
         f" {file.products if file.products is not None else 'unknown'} products, words: {words or 'none'}{terms}",
     ]
     for row in inbox.ledger.messages_of(file):
-        lines.append(f"  number {row.number}: {row.state}; {cut(row.answer)}")
+        lines.append(f"  number {row.number}: {'; '.join(filter(None, [row.state, cut(row.answer)]))}")
     query = "SELECT at, what FROM decision WHERE file = ? AND what <> 'told' ORDER BY id"
     for at, what in inbox.ledger.rows(query, file.id):
         lines.append(f"  {moment(at)}: {what}")

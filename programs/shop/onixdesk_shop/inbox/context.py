@@ -119,8 +119,6 @@ class Inbox:
         if before.state == State.REJECTED:
             self.tell_file(WARNING, file, "a person refused these bytes")
         elif before.state == State.REPLACED:
-            self.tell_file(
-                WARNING, file, "a newer full file replaced these bytes, and they are not taken any more"
-            )
+            self.tell_file(WARNING, file, "a newer full file replaced these bytes, and they are not taken any more")
         elif before.number is not None:
             self.tell_file(NOTICE, file, f"had it already: {before.state} from number {before.number} on")

@@ -1,1 +1,1 @@
-"""What measures the program and the gate. It may use `tools`, and none of `tests`."""
+"""Measures the program and the gate. It may use `tools`, but not `tests`."""

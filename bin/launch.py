@@ -1,4 +1,4 @@
-"""Starts the shop's program by whose name it is called: `desk-copy --help`."""
+"""Starts the shop's program by the name it is called by, such as `desk-copy`."""
 
 import sys
 from importlib import import_module
@@ -15,7 +15,7 @@ MODULES = {
     "write-rules": "rules",
 }
 
-# The package, beside this folder.
+# The package lies beside this folder.
 sys.path.insert(0, str(Path(__file__).resolve().parent.parent / "programs" / "shop"))
 
 

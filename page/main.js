@@ -12,7 +12,7 @@ import { Scanner } from "./text/scan.js";
 import { loadSettings } from "./desk/settings.js";
 import { labelAll, say, sayCount, speak } from "./text/wording.js";
 
-/** What a view tells of the desk, in the note above it. */
+/** What a view says of the desk, in the note above it. */
 const watch = {
   down(words) {
     const note = found("down");
@@ -27,7 +27,7 @@ const watch = {
   },
 };
 
-/** Says what is wrong with a file of the shop's, in the note above the views. */
+/** Says what is wrong with a file of the shop, in the note above the views. */
 function showProblems(problems) {
   if (problems.length === 0) return;
   const items = problems.map((problem) => element("li", {}, say(problem.path, problem.values)));
@@ -39,7 +39,7 @@ function showProblems(problems) {
   found("settings-wrong").hidden = false;
 }
 
-/** Another day has other prices: the page begins anew, once somebody sees it, and a list is kept. */
+/** Another day has other prices: the page reloads once somebody looks at it, and keeps the list. */
 function reloadAtMidnight() {
   const begun = today();
   const look = () => {
@@ -65,14 +65,14 @@ function show(views) {
       shown.leave();
     }
   }
-  // Another view has the way back to what was asked here.
+  // Another view leads back to what was asked here.
   if (location.hash !== "") found(`to-${view}`).href = location.hash;
   views[view].show(given);
   const title = views[view].title?.() ?? say(`${view}.view`);
   document.title = say("page.title", { view: title, shop: found("shop").textContent });
 }
 
-/** Counts at the tab, in every view, the wholesalers of whom somebody should look. */
+/** The tab counts, in every view, the wholesalers that somebody should look at. */
 function countStops(reports) {
   const count = reports.doubtful().length;
   const words = count > 0 ? [" ", element("span", { class: "tag unusual" }, sayCount("missing.stopsAtTab", count))] : [];
@@ -106,8 +106,8 @@ async function start() {
     event.preventDefault();
     found("content").focus();
   });
-  // An address that was set just before the page stood is shown already when the browser tells of it: to show it
-  // once more would ask everything twice.
+  // An address that was set just before the page was ready is shown already when the browser tells of it: showing it
+  // again would ask everything twice.
   window.addEventListener("hashchange", () => {
     if (location.hash !== shownHash) show(views);
   });

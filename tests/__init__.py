@@ -1,1 +1,1 @@
-"""The tests from outside. They may use `tools`, which uses neither them nor `bench`."""
+"""The tests from outside. They may use `tools`; `tools` uses neither them nor `bench`."""

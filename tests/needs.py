@@ -1,4 +1,4 @@
-"""Which programs that tests call are here: packages.txt names Debian's packages, each with one that it brings."""
+"""Which programs that tests call are installed: packages.txt names Debian's packages, each with a program of it."""
 
 import os
 import shutil
@@ -7,7 +7,7 @@ from pathlib import Path
 
 from tools.root import ROOT
 
-# Where Debian has the packages of its own Python.
+# Where Debian puts the packages of its own Python.
 DEBIAN_PYTHON = "/usr/lib/python3/dist-packages"
 
 # A daemon is not on every user's path.
@@ -25,13 +25,13 @@ def is_here(program: str) -> bool:
 
 
 def missing(programs: Iterable[str]) -> list[str]:
-    """Of these programs the packages of those that are not here."""
+    """The packages of those of these programs that are missing."""
     of = packages()
     return [of[program] for program in programs if not is_here(program)]
 
 
 def nothing_may_be_left_out() -> bool:
-    """Whether whatever cannot be tried fails, as CI wants it."""
+    """Whether tests that cannot run fail, as in CI."""
     return bool(os.environ.get("NOTHING_LEFT_OUT"))
 
 
@@ -50,6 +50,6 @@ POSTGRES = ["/usr/lib/postgresql/15/bin/initdb", f"{DEBIAN_PYTHON}/psycopg2"]
 
 
 def why(programs: Iterable[str]) -> str:
-    """Why what needs these programs is left out; empty where none is missing."""
+    """Why tests that need these programs are left out; empty if none is missing."""
     lacking = missing(programs)
     return f"needs Debian's {', '.join(lacking)}" if lacking else ""

@@ -1,4 +1,4 @@
-"""Libraries of C that a program of tests loads before its own."""
+"""C libraries that a test program loads before its own."""
 
 import shutil
 import subprocess
@@ -6,17 +6,17 @@ from pathlib import Path
 
 from tools.words import Word
 
-# The compilers of C that are looked for, before the toolchain's own, which has no library of C.
+# The C compilers to look for, before the toolchain's own, which has no C library.
 COMPILERS = [["cc", "-ldl"], ["clang", "-ldl"]]
 OF_TOOLCHAIN = "toolchain/bin/clang"
 
 
 class NoCompiler(Exception):
-    """There is no compiler of C."""
+    """There is no C compiler."""
 
 
 def compilers() -> list[list[str]]:
-    """The compilers of C that may be here, each with its words for the linker."""
+    """The C compilers that may be installed, each with its words for the linker."""
     rt = shutil.which("rt")
     own = Path(rt).resolve().parent.parent / OF_TOOLCHAIN if rt else None
     return [*COMPILERS, *([[str(own), "-nostdlib", f"--ld-path={own.with_name('ld.lld')}"]] if own else [])]
@@ -30,7 +30,7 @@ def build_by(compiler: list[str], source: Path, library: Path) -> None:
 
 
 def build(source: Path, library: Path) -> None:
-    """Compiles it by the first that is there."""
+    """Compiles it by the first one that is installed."""
     for compiler in compilers():
         try:
             build_by(compiler, source, library)

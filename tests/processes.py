@@ -1,4 +1,4 @@
-"""Tries groups of cases in several processes side by side: in one, the Python of each group would wait for the others'."""
+"""Runs groups of cases in several processes: in one, the Python of each group would wait for the others'."""
 
 import contextlib
 import multiprocessing
@@ -9,8 +9,8 @@ from multiprocessing.connection import Connection, wait
 
 from tests.running import Cases, Counted, count_all
 
-# Three for each two processors, since a group now and then waits for what takes none, as for a client that is silent;
-# more do not gain, since a case often runs a program that has a processor for itself.
+# Three for each two processors, since a group now and then waits without using one, as for a silent client. More would
+# gain nothing, since a case often runs a program with a processor of its own.
 MOST = 6
 
 # A process has what this one has imported and read.
@@ -18,14 +18,14 @@ FORK = multiprocessing.get_context("fork")
 
 
 def usual() -> int:
-    """How many processes there are where nobody says it."""
+    """The default number of processes."""
     return min(MOST, max(1, 3 * len(os.sched_getaffinity(0)) // 2))
 
 
 def try_each(groups: Sequence[Cases], case: str, asked: Connection, others: list[Connection]) -> None:
-    """What such a process does: it tries each group whose place it is given, tells what came of it, and ends where no
-    more can come."""
-    # While it kept them open, the other processes would not see their end.
+    """What such a process does: it runs each group whose place it gets, reports the result, and ends when no more can
+    come."""
+    # If it kept them open, the other processes would not see their end.
     for connection in others:
         connection.close()
     with contextlib.suppress(EOFError):
@@ -34,7 +34,7 @@ def try_each(groups: Sequence[Cases], case: str, asked: Connection, others: list
 
 
 class Worker:
-    """A process that tries one group after the other, and the place of the one that it tries now."""
+    """A process that runs one group after the other, and the place of its present one."""
 
     def __init__(self, groups: Sequence[Cases], case: str, beside: "list[Worker]") -> None:
         self.place = -1
@@ -49,7 +49,7 @@ class Worker:
         self.asking.send(place)
 
     def answer(self) -> Counted | None:
-        """What came of the group; nothing where the process has ended in the midst of it."""
+        """The result of the group; None if the process ended amid it."""
         try:
             counted: Counted = self.asking.recv()
         except (EOFError, OSError):
@@ -63,7 +63,7 @@ class Worker:
 
 
 class Side:
-    """Groups that are tried by so many processes, and what came of those that are done, by their places."""
+    """Groups run by so many processes, and the results of finished ones, by their places."""
 
     def __init__(self, groups: Sequence[Cases], case: str, most: int) -> None:
         self.groups = groups
@@ -88,7 +88,7 @@ class Side:
             worker.end()
 
     def take(self, worker: Worker) -> None:
-        """Takes what came of a group. Where its process has ended, the group has failed, and another goes on."""
+        """Takes the result of a group. If its process has ended, the group has failed, and another process goes on."""
         counted = worker.answer()
         if counted is not None:
             self.done[worker.place] = counted
@@ -104,7 +104,7 @@ class Side:
         self.add()
 
     def take_some(self) -> None:
-        """Waits for what comes next."""
+        """Waits for the next event."""
         if not self.workers:
             raise RuntimeError("a group was given to no process")
         ready = wait([worker.asking for worker in self.workers])
@@ -117,7 +117,7 @@ class Side:
 
 
 def tried(groups: Sequence[Cases], case: str, most: int) -> Iterator[Counted]:
-    """What comes of each group, in their order, while so many processes try them."""
+    """The result of each group, in order, while so many processes run them."""
     side = Side(groups, case, most)
     try:
         for place in range(len(groups)):

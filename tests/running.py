@@ -1,4 +1,4 @@
-"""Runs groups of cases side by side, all of them or those that are named, and counts the cases that failed."""
+"""Runs groups of cases side by side, all of them or the named ones, and counts the failed cases."""
 
 import argparse
 import os
@@ -13,7 +13,7 @@ from typing import Any, NamedTuple
 from tests import needs
 from tools.root import ROOT
 
-# The program that is tested where no other is named.
+# The default program.
 PROGRAM = ROOT / "crates/onixdesk/out/onixdesk"
 
 # How much of a value a line shows.
@@ -21,7 +21,7 @@ SHOWN = 2000
 
 
 class Outcome(NamedTuple):
-    """What came of a case, and what was wanted."""
+    """The result of a case, and the expected one."""
 
     name: str
     came: Any
@@ -29,15 +29,15 @@ class Outcome(NamedTuple):
 
 
 def left_out(why: str) -> Outcome:
-    """What a group yields in place of cases that cannot be tried here, for that reason. It is told, and it fails where
-    NOTHING_LEFT_OUT is set, as .ci/run has it."""
+    """What a group yields instead of cases that cannot be tried here, for that reason. It is reported, and fails if
+    NOTHING_LEFT_OUT is set, as in .ci/run."""
     print(f"left out: {why}", file=sys.stderr, flush=True)
     return Outcome(f"left out: {why}", needs.nothing_may_be_left_out(), False)
 
 
 class Cases:
-    """A group of cases, each of which may build on those before it: it has a name, the module where it stands, and the
-    programs without which it is left out (tests/needs.py)."""
+    """A group of cases, each of which may build on those before it: its name, its module, and the programs without
+    which it is left out (tests/needs.py)."""
 
     def __init__(self, name: str, module: str, needs: Iterable[str] = ()) -> None:
         self.name = name
@@ -57,7 +57,7 @@ def shown(value: object) -> str:
 
 
 class Counted:
-    """What came of groups: how many cases were tried, and a line for each that failed."""
+    """The results of groups: how many cases ran, and a line for each that failed."""
 
     def __init__(self) -> None:
         self.count = 0
@@ -70,7 +70,7 @@ class Counted:
 
 
 class Chosen(NamedTuple):
-    """Which cases are tried: of the groups whose name keeps to one of the patterns those whose name has a text."""
+    """Which cases run: in groups whose name matches one of the patterns, those whose name has a text."""
 
     patterns: list[str]
     case: str = ""
@@ -80,12 +80,12 @@ class Chosen(NamedTuple):
 
 
 def pattern_of(text: str) -> str:
-    """A text without a wildcard stands anywhere in the name."""
+    """A text without a wildcard may be anywhere in the name."""
     return text if "*" in text else f"*{text}*"
 
 
 def command_line(name: str, text: str | None) -> argparse.ArgumentParser:
-    """The words by which the cases and the program that is tested are chosen."""
+    """The words that select the cases and the tested program."""
     parser = argparse.ArgumentParser(name, description=text, formatter_class=argparse.RawDescriptionHelpFormatter)
     parser.add_argument("program", metavar="PROGRAM", type=Path, nargs="?")
     parser.add_argument(
@@ -108,13 +108,13 @@ def command_line(name: str, text: str | None) -> argparse.ArgumentParser:
 
 
 def left_out_whole(label: str, why: str) -> int:
-    """Says that nothing of these tests is tried, and gives the status."""
+    """Says that none of these tests runs, and returns the status."""
     print(f"{label}: left out, since it {why}")
     return 2 if needs.nothing_may_be_left_out() else 0
 
 
 def why_not(program: Path, is_listed: bool = False) -> str | None:
-    """Why that program cannot be tested; that the cases are listed needs no program."""
+    """Why that program cannot be tested; listing the cases needs no program."""
     if not is_listed and not os.access(program, os.X_OK):
         return f"no program {program}; make build builds it"
     return None
@@ -125,8 +125,8 @@ def choice(given: argparse.Namespace) -> Chosen:
 
 
 def count_all(groups: Iterable[Cases], case: str = "") -> Counted:
-    """Tries groups one after the other, of which the cases count whose name has a text. One that ends by an exception,
-    or that has no case, is a case that failed."""
+    """Runs groups one after the other, counting cases whose name has a text. A group that ends by an exception, or has
+    no case, counts as a failed case."""
     counted = Counted()
     for group in groups:
         try:
@@ -147,8 +147,8 @@ def called(lane: Callable[[], Counted]) -> Counted:
 
 
 def tell_all(label: str, found: Iterable[Counted]) -> int:
-    """Prints what failed and the last line `LABEL: N cases, M failed`, and gives the status: 0; 1 where a case failed;
-    2 where none was tried."""
+    """Prints what failed and the last line `LABEL: N cases, M failed`, and returns the status: 0; 1 if a case failed; 2
+    if none ran."""
     count = failed = 0
     for counted in found:
         count += counted.count
@@ -160,6 +160,6 @@ def tell_all(label: str, found: Iterable[Counted]) -> int:
 
 
 def run_side_by_side(label: str, lanes: list[Callable[[], Counted]], most: int | None = None) -> int:
-    """Runs lanes side by side in threads, and gives the status of all."""
+    """Runs lanes side by side in threads, and returns the status of all."""
     with ThreadPoolExecutor(most or os.cpu_count()) as pool:
         return tell_all(label, pool.map(called, lanes))

@@ -1,1 +1,1 @@
-"""What builds the program, and makes what is made of the sources."""
+"""Builds the program, and makes files from the sources."""

@@ -1,10 +1,10 @@
-"""What the tree weighs, beside what budget.txt allows.
+"""Prints the size of the tree beside what budget.txt allows.
 
     tools/budget
 
-A line for each row of budget.txt: what there is, what is allowed, and of what. Status 1 where there is more than that.
-Files that git has are counted by their lines, documents by their words. What the gate weighed last is only told:
-bench/weight weighs it, and whoever runs it from nothing writes it down.
+It prints a line for each row of budget.txt: the size, what is allowed, and of what. Status 1 if one is too large. It
+counts lines of the files in git, and words of documents. The weight of the gate is only printed: bench/weight measures
+it, and whoever runs that from nothing writes it down.
 """
 
 import re
@@ -25,7 +25,7 @@ SHELL, PYTHON = re.compile(r"#!.*[ /](?:ba)?sh\b"), re.compile(r"#!.*[ /]python3
 
 
 def names() -> list[Path]:
-    """The files of the tree, but for links."""
+    """The files of the tree, without links."""
     found = subprocess.run(
         ["git", "ls-files", "-z"],
         cwd=ROOT,
@@ -62,13 +62,13 @@ class File:
         return self.top == "crates" and self.path.suffix in {".rt", ".antt"}
 
     def is_else(self) -> bool:
-        """Whether it is neither Python, JavaScript, shell nor a document, below what ships or tests."""
+        """Whether it ships or tests, and is neither Python, JavaScript, shell nor a document."""
         others = self.top in {"programs", "packaging", "tests", "bench"} and self.path.suffix not in {".js", ".md"}
         return others and self.is_text and not self.is_shell() and not self.is_python()
 
 
 def has_body(lines: list[str], indent: str) -> bool:
-    """Whether the function that begins with these lines has a body: a brace behind its head and clauses, which are
+    """Whether the function that begins with these lines has a body: a brace after its head and clauses, which are
     indented further, and no semicolon outside brackets."""
     depth = 0
     for line in lines:
@@ -96,7 +96,7 @@ def python_in(*tops: str) -> Callable[[File], int]:
     return lines_where(lambda file: file.top in tops and file.is_python())
 
 
-# How much of each row a file has.
+# What each row counts in a file.
 ROWS: dict[str, Callable[[File], int]] = {
     "lines of Rattle": lines_where(File.is_rattle),
     "functions of Rattle, without the test crates": functions,

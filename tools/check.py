@@ -1,13 +1,13 @@
-"""Proves a crate over the libraries that a run of `rt ci` has proved, and waits for no other check.
+"""Proves a crate over the libraries that a run of `rt ci` has proved, without waiting for other checks.
 
     tools/check [--from CLONE] CRATE [FLAG..]
 
-`rt check` builds each library below the crate that no check in this clone has built, also where `rt ci` has, and waits
-for whoever builds one of them. This takes those of CLONE (this clone where none is named) that were made from the
-same files, and has the prover read the others as sources. FLAG.. are the prover's, as `--only PATH` or
-`--allow-holes`. What it proves counts for nothing at the gate.
+`rt check` builds each library below the crate that no check in this clone has built, even if `rt ci` has, and waits
+for other runs that build one of them. This takes those of CLONE (by default this clone) that were made from the same
+files, and has the prover read the others as sources. FLAG.. are the prover's, such as `--only PATH` or
+`--allow-holes`. The gate does not use what it proves.
 
-The status is the prover's; 2 where there is no such crate.
+The status is the prover's; 2 if there is no such crate.
 """
 
 import argparse
@@ -27,13 +27,13 @@ def toolchain() -> Any:
     page = subprocess.run(["rt", "doc"], stdout=subprocess.PIPE, text=True, check=True).stdout.strip()
     sys.path.append(str(Path(page).parent / "bin"))
     module = importlib.import_module("rtlib")
-    # A crate's stamp is made of those of all that it stands on, and each of these is asked for it many times.
+    # The stamp of a crate depends on those of all crates below it, and is asked for many times.
     module.Crate.stamp = functools.cache(module.Crate.stamp)
     return module
 
 
 def take_libraries(crate: Any, others: dict[str, Any]) -> set[str]:
-    """The libraries below the crate that are built, each linked from the other clone where only that one has it."""
+    """The built libraries below the crate, linked from the other clone if only that one has them."""
     built = set()
     for library in crate.below():
         other = others.get(library.name)
@@ -49,7 +49,7 @@ def take_libraries(crate: Any, others: dict[str, Any]) -> set[str]:
 
 
 def words_over(crate: Any, built: set[str], flags: list[str]) -> list[str]:
-    """The prover's words for the crate, with these libraries as they are built and the others as sources."""
+    """The prover's words for the crate, with these libraries as built ones and the others as sources."""
     below = {library.name: library for library in crate.below()}
     words = list(crate.words(["--jobs", "1", *flags], as_source=True, keeps=False))
     found: list[str] = []
@@ -79,7 +79,7 @@ def main() -> int:
     crate = rt.Crate(str(folder), str(ROOT), {})
     known: dict[str, Any] = {}
     clone = given.clone.resolve()
-    # The clone may lack the crate itself, as where that is new.
+    # The clone may lack the crate itself, if that is new.
     folders = {library.name: clone / "crates" / library.name for library in crate.below()}
     others = {name: rt.Crate(str(path), str(clone), known) for name, path in folders.items() if path.is_dir()}
     built = take_libraries(crate, others)

@@ -1,4 +1,4 @@
-"""Writes docs/COMMANDS.md: each command as its `--help` has it. PROGRAM is the program, else the one of `make try`.
+"""Writes docs/COMMANDS.md from each command's `--help`. PROGRAM is the program, by default that of `make try`.
 
     tools/python -m tools.commands [PROGRAM]
 """

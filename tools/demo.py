@@ -1,10 +1,10 @@
-"""Serves the buyers' page, with a desk behind it that has a shop's week, on 127.0.0.1.
+"""Serves the buyers' page over a desk with a shop's week, on 127.0.0.1.
 
     tools/demo [--port N]
 
-No nginx, no password and no certificate: whoever works on this machine can open the page, and nobody else. The desk
+It needs no nginx, password or certificate: whoever works on this machine can open the page, and nobody else. The desk
 has the week of examples/shop, the messages of examples/page/demo.csv, whose prices change in twenty days, and thirty
-books for an order list. It is kept in a folder that is removed at the end, which Ctrl-C makes.
+books for an order list. Ctrl-C ends it, and its folder is removed.
 """
 
 import argparse
@@ -34,7 +34,7 @@ VIEW = "#article?isbn=9780140328721&quantity=10"
 
 RULES = ROOT / "examples/shop/rules.toml"
 
-# What the inbox says of a wholesaler: that its files have numbers, and none is stopped.
+# The inbox's report on a wholesaler: its files have numbers, and none is stopped.
 WHOLE = {
     "version": 1,
     "numbered": True,
@@ -50,7 +50,7 @@ WHOLE = {
 # For how many days the first prices of demo.csv hold.
 DAYS = 20
 
-# Who sends the books for an order list, each ten of them: the sender, its name, and its next message.
+# The senders of the books for an order list, ten each: the sender, its name, and its next message.
 SENDERS = [
     ("4012345000009", "North Books", 4),
     ("5000000000005", "South Books", 5),
@@ -84,7 +84,7 @@ ISBNS = [[isbn(10 * sender + book) for book in range(10)] for sender in range(le
 
 
 def requests() -> bytes:
-    """The week and the messages behind it."""
+    """The week and the messages after it."""
     more = (ROOT / "examples/page/demo.csv").read_bytes()
     dated = more.replace(b"LAST", day_in(DAYS)).replace(b"NEXT", day_in(DAYS + 1))
     stock = [books(*sender, isbns) for sender, isbns in zip(SENDERS, ISBNS, strict=True)]
@@ -93,7 +93,7 @@ def requests() -> bytes:
 
 @contextlib.contextmanager
 def desk(program: Path) -> Iterator[int]:
-    """A desk that has the week, at the port that is given."""
+    """A desk with the week, at the given port."""
     print(
         "demo: a desk is given a shop's week, for which the unproved program takes a while", file=sys.stderr, flush=True
     )
@@ -114,7 +114,7 @@ def desk(program: Path) -> Iterator[int]:
 
 
 def state_of(target: str) -> dict[str, object]:
-    """What stands beside the page in a shop: the rules that the desk has read, and how a wholesaler's files stand."""
+    """The files beside the page in a shop: the desk's rules, and how a wholesaler's files stand."""
     now = int(time.time())
     if target == "/state/rules.json":
         return {"version": 1, "at": now, "rules": tomllib.loads(RULES.read_text(encoding="utf-8"))["rule"]}
@@ -135,7 +135,7 @@ class Page(http.server.SimpleHTTPRequestHandler):
         if target.startswith(("/desk/articles/", "/desk/series/")):
             self.ask(target.removeprefix("/desk"))
         elif target.startswith("/state/titles/"):
-            # There are none.
+            # There are no titles.
             self.reply(204, "application/json", b"")
         elif target.startswith("/state/"):
             self.reply(200, "application/json", json.dumps(state_of(target)).encode())
@@ -143,7 +143,7 @@ class Page(http.server.SimpleHTTPRequestHandler):
             super().do_GET()
 
     def ask(self, target: str) -> None:
-        """Hands a question on to the desk, and its reply back."""
+        """Passes a question to the desk, and its reply back."""
         try:
             connection = http.client.HTTPConnection(HOST, self.desk_port, timeout=SECONDS)
             connection.request("GET", target)
@@ -168,7 +168,7 @@ class Page(http.server.SimpleHTTPRequestHandler):
 
 
 def page_at(port: int) -> http.server.ThreadingHTTPServer:
-    """The page at that port, or, where another program has it, at one that is free."""
+    """The page at that port, or at a free one if another program has it."""
     try:
         return http.server.ThreadingHTTPServer((HOST, port), Page)
     except OSError:

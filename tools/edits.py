@@ -1,7 +1,7 @@
-"""Whether each edit that the prover must refuse can be applied to the sources, told in seconds.
+"""Checks in seconds that each edit that the prover must refuse can be applied to the sources.
 
-`rt ci` calls one that cannot be a BAD EDIT, and goes on: it would test nothing from then on. A line is written for each,
-and the status is then 1.
+`rt ci` calls one that cannot be a BAD EDIT, and goes on: it would test nothing from then on. This writes a line for
+each, with status 1.
 """
 
 import sys
@@ -18,7 +18,7 @@ class BadEdit(Exception):
 
 
 class Edit(NamedTuple):
-    """A file of an edit, and the folder that its files are named from."""
+    """The file of an edit, and the folder that its paths start from."""
 
     path: Path
     folder: Path
@@ -28,14 +28,14 @@ class Edit(NamedTuple):
 
 
 def edits() -> list[Edit]:
-    """Those of all crates, in the gate and left out of it."""
+    """The edits of all crates, those that the gate leaves out too."""
     of_crates = sorted(edit for folder in FOLDERS for edit in ROOT.glob(f"crates/*/{folder}/*.edit"))
     return [Edit(edit, edit.parents[1]) for edit in of_crates]
 
 
 def applied(edit: str, folder: Path) -> dict[str, str]:
-    """The texts of the files that an edit makes, by their names in the folder; BadEdit where it cannot be applied. Each
-    `old:` applies to what the pairs before it have made of its file."""
+    """The texts that an edit makes, by file name in the folder; raises BadEdit if it cannot be applied. Each `old:`
+    applies to what the pairs before it made of its file."""
     texts: dict[str, str] = {}
     path = old = ""
     pairs = 0
@@ -65,7 +65,7 @@ def applied(edit: str, folder: Path) -> dict[str, str]:
 
 
 def why_not(edit: str, folder: Path) -> str | None:
-    """Why a text cannot be applied as an edit; none where it can."""
+    """Why a text cannot be applied as an edit, or None."""
     try:
         applied(edit, folder)
     except BadEdit as bad:

@@ -1,4 +1,4 @@
-"""The named characters of HTML, as crates/feed_xml/src/html_names.rt has them, from Python's table: tools/html-names
+"""The named characters of HTML, as crates/feed_xml/src/html_names.rt has them, from Python's table; tools/html-names
 writes that file."""
 
 import unicodedata
@@ -9,7 +9,7 @@ from tools.root import ROOT
 
 LISTS = ROOT / "crates/feed_xml/src/html_names.rt"
 
-# XML has names with their semicolon alone.
+# XML allows only names with their semicolon.
 NAMES = {name.removesuffix(";"): characters for name, characters in html5.items() if name.endswith(";")}
 
 # What XML itself declares.
@@ -27,12 +27,12 @@ HEAD = """\
 
 
 def rank(name: str) -> tuple[bool, bool, str]:
-    """Where a name stands in its list: what feeds have most comes first, those of XML and then those of HTML 4."""
+    """The order of names in a list: what feeds have most comes first, those of XML and then those of HTML 4."""
     return name not in OF_XML, name not in name2codepoint, name
 
 
 def written(character: str) -> str:
-    """A character in a text of the source; by its number where it would not be seen by itself."""
+    """A character in a text of the source; by its number if it would not show by itself."""
     if character in '"\\':
         return f"\\{character}"
     if unicodedata.category(character)[0] in "CMZ":
@@ -45,7 +45,7 @@ def entry(name: str) -> str:
 
 
 def lines(names: list[str]) -> Iterator[str]:
-    """The lines of a list, each with the mark that it goes on."""
+    """The lines of a list, each with the mark that continues it."""
     indent = " " * 4
     line = indent
     for name in names:

@@ -1,4 +1,4 @@
-"""Ports of this machine that a test or a benchmark has for itself."""
+"""Ports of this machine for a test or a benchmark alone."""
 
 import errno
 import fcntl
@@ -11,22 +11,22 @@ from threading import Lock
 
 HOST = "127.0.0.1"
 
-# Below those that the system gives to clients and to servers that name none (net.ipv4.ip_local_port_range), so that no
-# other program gets one by chance.
+# They are below those that the system gives to clients and to servers without one (net.ipv4.ip_local_port_range), so
+# that no other program gets one by chance.
 PORTS = range(20_000, 30_000)
 
 
 class Ports:
-    """The ports that this process has been given. Each is locked, so that no other process gets it until this ends."""
+    """The ports given to this process. Each is locked, so that no other process gets it until this one ends."""
 
     def __init__(self) -> None:
         self.lock = Lock()
         self.file = -1
-        # Processes begin at places of their own.
+        # Each process begins at a place of its own.
         self.places = itertools.count(os.getpid() * 97)
 
     def next(self) -> int:
-        """One that nobody has."""
+        """A free port."""
         with self.lock:
             if self.file < 0:
                 path = Path(tempfile.gettempdir(), f"onixdesk-ports-{os.geteuid()}")

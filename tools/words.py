@@ -1,4 +1,4 @@
-"""What the tests and the benchmarks call a word of a command line and a row of a table, and how they seek in texts."""
+"""Types for words of a command line and rows of a table, and a search in texts."""
 
 import os
 import re
@@ -6,13 +6,13 @@ from typing import Any, AnyStr, TypeAlias
 
 Word: TypeAlias = str | os.PathLike[str]
 
-# The values are of the types that the query says.
+# The query says of which types the values are.
 Row: TypeAlias = tuple[Any, ...]
 
 
 def sought(pattern: AnyStr, text: AnyStr) -> AnyStr:
-    """What the first group of a pattern is in the first place of a text that keeps to it, ^ and $ being of its lines.
-    ValueError where there is none."""
+    """The first group of a pattern's first match in a text, with ^ and $ for its lines; raises ValueError without a
+    match."""
     found = re.search(pattern, text, re.MULTILINE)
     if not found:
         raise ValueError(f"{text!r} has nothing of {pattern!r}")

@@ -2,9 +2,9 @@
 
     bench/run [--desk PROGRAM] [--small]
 
-Without a PROGRAM it is the proved one, which tools/build builds where a source has changed. What is read and written is
-in the folder for temporary files. What cannot be had is told on standard error, and the status is then 1. With --small
-all sizes are a five-hundredth, which tries this command and measures nothing.
+Without a PROGRAM it measures the proved one, which tools/build builds if a source has changed. Its files are in the
+folder for temporary files. It reports on standard error what it could not measure, with status 1. --small divides all
+sizes by five hundred, to try this command; it measures nothing.
 """
 
 import argparse
@@ -30,7 +30,7 @@ OF_BENCHMARKS: list[Callable[[Bench], Iterator[ratios.Figure]]] = [
 
 
 def print_table(head: str, *parts: Callable[[], Iterator[ratios.Figure] | Iterator[growth.Size]]) -> bool:
-    """Prints the lines of all parts, and gives whether each could be had."""
+    """Prints the lines of all parts; returns whether all could be measured."""
     print(head, "|---" * (head.count("|") - 1) + "|", sep="\n", flush=True)
     is_whole = True
     for part in parts:

@@ -1,12 +1,12 @@
-"""What a run of the gate weighs, by its parts.
+"""Measures a run of the gate, by its parts.
 
     bench/weight [COMMAND..]
 
 It runs COMMAND ('make test') and looks at the processes below it twice a second. At the end it prints their processor
-time, as a multiple of what the proofs of csv_records and onix_terms took in the same run: for each crate its proof, its
-must-fail edits, its tests and what two compilers make of its program; the crates of the longest chain; the most memory;
-the minutes; how many crates were kept, which weigh nothing; and in a last line, 'weight: ..', the whole without the
-tests of the page and of PostgreSQL. Two runs compare if nothing ran beside them. The status is that of COMMAND.
+time, as a multiple of that for the proofs of csv_records and onix_terms in the same run: for each crate its proof, its
+must-fail edits, its tests and the builds of its program; the crates of the longest chain; the peak memory; the minutes;
+how many crates were kept, which weigh nothing; and in a last line, 'weight: ..', the whole without the tests of the
+page and of PostgreSQL. Two runs compare if nothing ran beside them. The status is that of COMMAND.
 """
 
 import resource
@@ -20,7 +20,7 @@ from tools.root import ROOT
 
 
 def copy_lines(run: subprocess.Popen[str], kept: list[str]) -> None:
-    """Hands on what the run writes, and takes down what `rt ci` says that it kept."""
+    """Passes on what the run writes, and notes which results `rt ci` kept."""
     assert run.stdout
     for line in run.stdout:
         print(line, end="", flush=True)
@@ -29,7 +29,7 @@ def copy_lines(run: subprocess.Popen[str], kept: list[str]) -> None:
 
 
 def weigh(command: list[str]) -> tuple[int, list[str]]:
-    """Runs the command, and gives its status and the lines on it."""
+    """Runs the command; returns its status and the lines about it."""
     began, kept = time.monotonic(), list[str]()
     run = subprocess.Popen(command, cwd=ROOT, stdout=subprocess.PIPE, text=True, errors="replace")
     sampler = Sampler(run.pid)

@@ -1,4 +1,4 @@
-"""What a run of the gate took of the processor and of memory, by its parts."""
+"""Processor time and memory of a run of the gate, by its parts."""
 
 import os
 from collections import defaultdict
@@ -7,22 +7,22 @@ from typing import TypeAlias
 
 from tools.root import ROOT
 
-# A kind of part of the gate, and the crate that it is of.
+# A kind of part of the gate, and its crate.
 Part: TypeAlias = tuple[str, str]
 
 KINDS = ["proofs", "edits", "tests", "programs"]
 
-# What all weights are a multiple of.
+# All weights are multiples of this.
 BASE = [("proofs", "csv_records"), ("proofs", "onix_terms")]
 
 ELSE = ("others", "all else")
 
-# Tests that are no part of the weight, with all that they start, by a word of their command.
+# Tests that do not count, with all that they start, by a word of their command.
 APART = {"tests.commands.page": "page", "tests/page/modules/run": "page", "tests.commands.postgres": "PostgreSQL"}
 
 
 def part_named(words: list[str], folder: str) -> Part:
-    """Which part of the gate a process is, by its words and the folder that it works in."""
+    """The part of the gate that a process belongs to, by its words and working folder."""
     tool = os.path.basename(words[0])
     if tool in {"clang", "ld", "lld", "ld.lld", "rattle-link"}:
         return "others", "linking"
@@ -33,21 +33,21 @@ def part_named(words: list[str], folder: str) -> Part:
         return "edits", crate
     if "--crate-checked" in words:
         return "programs", crate
-    # A program that tests other crates is no part of what ships.
+    # A program that tests other crates does not ship.
     return "tests" if "--test" in words or crate.endswith("_tests") else "proofs", crate
 
 
 class Sampler:
-    """The processor seconds of all processes below one, each as it was last seen."""
+    """The processor seconds of all processes below one, each as last seen."""
 
     def __init__(self, root: int) -> None:
         self.root = str(root)
         self.found: dict[tuple[str, str], tuple[Part, float]] = {}
-        # The most bytes that a process of a part has had in memory.
+        # The peak memory of a process of a part, in bytes.
         self.memory: dict[Part, int] = defaultdict(int)
 
     def look(self) -> None:
-        """Takes down what the processes have used so far."""
+        """Notes what the processes have used so far."""
         parents, taken, words = {}, {}, {}
         for pid in filter(str.isdigit, os.listdir("/proc")):
             try:
@@ -74,7 +74,7 @@ class Sampler:
             self.memory[part] = max(self.memory[part], 1024 * kilobytes)
         except OSError:
             part = ELSE
-        # A process that has begun as another, or that is about to end, has no words of its own.
+        # A process that began as another one, or is about to end, has no words of its own.
         self.found[process] = (self.found[process][0] if part == ELSE and process in self.found else part), seconds
 
     def seconds(self) -> dict[Part, float]:
@@ -85,7 +85,7 @@ class Sampler:
 
 
 def longest_chain(weights: dict[Part, float]) -> tuple[float, list[str]]:
-    """The crates, each of which stands on the one before it, whose proofs weigh most together."""
+    """The chain of crates, each based on the one before it, whose proofs weigh most together."""
     chains: dict[str, tuple[float, list[str]]] = {}
     lines = ROOT.joinpath("crates.txt").read_text(encoding="utf-8").splitlines()
     # Lowest first.
@@ -97,7 +97,7 @@ def longest_chain(weights: dict[Part, float]) -> tuple[float, list[str]]:
 
 
 def table(weights: dict[Part, float]) -> list[str]:
-    """A row for each crate and for what is of none, those that weigh most first."""
+    """A row for each crate and for what belongs to none, the heaviest first."""
     rows: dict[str, dict[str, float]] = defaultdict(dict)
     whole: dict[str, float] = defaultdict(float)
     for (kind, name), weight in weights.items():
@@ -111,7 +111,7 @@ def table(weights: dict[Part, float]) -> list[str]:
 
 
 def report(sampler: Sampler) -> list[str]:
-    """The table, the longest chain, the most memory, and last the weight of the whole."""
+    """The table, the longest chain, the peak memory, and last the total weight."""
     seconds = sampler.seconds()
     lines, weight = [], "not known"
     if all(part in seconds for part in BASE):

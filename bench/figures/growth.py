@@ -1,4 +1,4 @@
-"""A desk in a file that `serve` keeps open and that grows by messages of new articles: a record with one identifier, one
+"""A desk in a file that `serve` keeps open, growing by messages of new articles: a record with one identifier, one
 supply and one price each."""
 
 import socket
@@ -13,7 +13,7 @@ from bench.figures.ratios import Bench
 from bench.figures.runs import BenchmarkFault
 from tools.ports import HOST, free_port
 
-# How many articles a message brings, how many messages a desk of each size has got, and how many prices it is asked for.
+# The articles in a message, the number of messages for each size of desk, and the number of price questions.
 ARTICLES, MESSAGES, QUESTIONS = 4_900, [2, 20, 65, 204], 300
 
 GAPS = "/series/north/gaps"
@@ -23,9 +23,9 @@ HEAD = "| Articles | An article, µs | A price, µs | File, MB | Process, MB | O
 
 
 class Size(NamedTuple):
-    """A desk of so many articles: the nanoseconds of the processor for an article of the last messages, for a price in
-    the median, and for opening the file; and the bytes of the file, and the greatest memory of the process that took
-    the messages and of the one that answered the questions."""
+    """A desk of so many articles: the nanoseconds of processor time for an article of the last messages, for a price
+    (the median), and for opening the file; the size of the file; and the peak memory of the process that took the
+    messages, and of the one that answered the questions."""
 
     articles: int
     article: float
@@ -42,7 +42,7 @@ class Size(NamedTuple):
 
 
 class Served:
-    """A desk that is kept open for so many connections and one more, by which it ends."""
+    """A desk that stays open for so many connections and one more, which ends it."""
 
     def __init__(self, bench: Bench, connections: int) -> None:
         self.port = free_port()
@@ -61,15 +61,15 @@ class Served:
         return Path(f"/proc/{self.process.pid}/{name}").read_text()
 
     def processor(self) -> int:
-        """The nanoseconds of the processor that it has taken."""
+        """The nanoseconds of processor time that it has used."""
         return int(self.told("schedstat").split()[0])
 
     def memory(self) -> int:
-        """The most bytes that were resident since its start."""
+        """The peak of resident bytes since its start."""
         return 1_024 * int(self.told("status").partition("VmHWM:")[2].split()[0])
 
     def exchange(self, wanted: bytes, target: str, body: bytes | None = None) -> int:
-        """The nanoseconds of the processor that a request took, whose reply has to have what is wanted."""
+        """The nanoseconds of processor time for a request whose reply must have what is wanted."""
         began = self.processor()
         head = f"{'GET' if body is None else 'POST'} {target} HTTP/1.1\r\n"
         head += "" if body is None else f"Content-Length: {len(body)}\r\n"
@@ -90,7 +90,7 @@ class Served:
 
 
 def grow(bench: Bench, first: int, last: int) -> tuple[float, int]:
-    """Gives the desk the messages of these numbers: the time of an article, and the greatest memory."""
+    """Sends the desk the messages of these numbers; returns the time for an article, and the peak memory."""
     served, articles = Served(bench, last - first + 1), bench.size(ARTICLES)
     wanted = f'"replaced":{articles},'.encode()
     messages = (texts.offers(number, articles).encode() for number in range(first, last + 1))

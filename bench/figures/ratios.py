@@ -1,5 +1,5 @@
-"""What the program takes of messages, questions and feeds, to what SQLite in C and the crate `csv` take alone for the
-same bytes. Rows and answers are compared before a time is taken."""
+"""The program's time for messages, questions and feeds, relative to SQLite in C and the crate `csv` alone on the same
+bytes. Rows and answers are compared before a time is taken."""
 
 import shutil
 import sqlite3
@@ -14,23 +14,23 @@ from tools.root import ROOT
 
 TABLES = ("series", "record", "article", "offer", "price", "price_minimum", "applied")
 
-# How many messages bring how many products each, how many products a catalogue has, how many prices are asked for, how
-# often the catalogue, and how many MB of XML a feed has.
+# The number of messages and of products in each, the products of a catalogue, the number of price questions and of
+# catalogues, and the MB of XML in a feed.
 MESSAGES, PRODUCTS, CATALOGUE, QUESTIONS, TIMES, MEGABYTES = 500, 20, 5_000, 10_000, 40, 400
 
-# Sample feeds, each with the name of its products and what their references begin with.
+# Sample feeds, each with the name of its products and the prefix of their references.
 FEEDS = {
     "reference names": ("two-products.xml", b"Product", b"com.tidewater.onix.00001"),
     "short tags": ("two-products-short.xml", b"product", b"com.tidewater.onix.00001"),
     "several Markets": ("block-update.xml", b"Product", b"nl-978190000"),
 }
 
-# Products that are written at once, all with the same beginning of their references.
+# Products that are written at once, with the same prefix of their references.
 AT_ONCE = 200
 
 
 class Figure(NamedTuple):
-    """What is measured, its value, and what that is made of."""
+    """A measure, its value, and what that is computed from."""
 
     what: str
     value: float
@@ -46,7 +46,7 @@ def to(what: str, one: Taken, other: Taken) -> Figure:
 
 
 class Bench(NamedTuple):
-    """The program, a folder for what is read and written, and by what all sizes are divided."""
+    """The program, a folder for files, and the divisor of all sizes."""
 
     program: Path
     folder: Path
@@ -64,7 +64,7 @@ class Bench(NamedTuple):
 
     @property
     def made(self) -> Path:
-        """The folder of what is made anew in each turn."""
+        """The folder of files that each turn makes anew."""
         return self.folder / "made"
 
     @property
@@ -72,7 +72,7 @@ class Bench(NamedTuple):
         return self.made / "desk.db"
 
     def batch(self, given: Path, is_in_file: bool = False) -> Run:
-        """The run that answers a batch over the file, or over a desk in memory."""
+        """The run that answers a batch, over the file or over a desk in memory."""
         place: list[Word] = ["--db", self.file] if is_in_file else []
         return Run([self.program, *place, "batch"], given)
 
@@ -84,7 +84,7 @@ class Bench(NamedTuple):
 
 
 def rows(file: Path) -> list[list[tuple[Any, ...]]]:
-    """The rows of each table, in order of their values."""
+    """The rows of each table, sorted by value."""
     with closing(sqlite3.connect(file)) as connection:
         return [sorted(connection.execute(f"SELECT * FROM {table}"), key=repr) for table in TABLES]
 
@@ -120,7 +120,7 @@ def messages_in_memory(bench: Bench) -> Iterator[Figure]:
 
 
 def catalogue(records: int, *questions: str) -> Iterator[str]:
-    """A batch that makes a catalogue by five messages and asks about it."""
+    """A batch that makes a catalogue with five messages and asks about it."""
     yield texts.AGREEMENT
     yield from (texts.offers(number, records // 5) for number in range(1, 6))
     yield from questions
@@ -157,7 +157,7 @@ def questions_for_catalogues(bench: Bench) -> Iterator[Figure]:
 
 
 def pieces(name: str, element: bytes, reference: bytes, size: int) -> Iterator[bytes]:
-    """A feed of about so many bytes: the sample's products again and again."""
+    """A feed of about so many bytes: the sample's products repeated."""
     text = (ROOT / "tests/feeds" / name).read_bytes()
     first, last = text.index(b"<%s" % element), text.rindex(b"</%s>" % element)
     end = text.index(b">", last) + 1

@@ -1,4 +1,4 @@
-"""Runs of programs, and what each took of the processor and of memory."""
+"""Runs programs, and measures their processor time and memory."""
 
 import os
 import shutil
@@ -10,13 +10,13 @@ from typing import NamedTuple, TypeAlias
 
 Word: TypeAlias = str | os.PathLike[str]
 
-# How often a time is taken: the least of these turns counts, since other work only makes a run longer.
+# How many turns are timed: the least counts, since other work only makes a run longer.
 TURNS = 3
 
 NOTHING = Path(os.devnull)
 
-# Runs a program, and writes its status, its microseconds of the processor and its greatest memory in kilobytes. What
-# runs it is small, since a process begins with the memory of the one that starts it.
+# Runs a program, and writes its status, its microseconds of processor time and its peak memory in kilobytes. The runner
+# is small, since a process starts with the memory of its parent.
 MEASURING = """
 import os, sys
 nowhere = [(os.POSIX_SPAWN_OPEN, 1, os.devnull, os.O_WRONLY, 0)]
@@ -31,7 +31,7 @@ class BenchmarkFault(Exception):
 
 
 class Run(NamedTuple):
-    """The words of a program, its input, and the status with which it has to end."""
+    """The words of a program, its input, and the expected status."""
 
     words: Sequence[Word]
     given: Path = NOTHING
@@ -39,8 +39,8 @@ class Run(NamedTuple):
 
 
 class Work(NamedTuple):
-    """What is measured: a run beyond another one, which only starts and ends and comes first. The folder of what both
-    make is emptied before."""
+    """A measured run, relative to another one that only starts and ends and comes first. The folder of what both make
+    is emptied before."""
 
     run: Run
     start: Run
@@ -48,14 +48,14 @@ class Work(NamedTuple):
 
 
 class Taken(NamedTuple):
-    """Microseconds of the processor, the system's share included, and the greatest memory in bytes."""
+    """Microseconds of processor time, the system's included, and peak memory in bytes."""
 
     microseconds: int
     memory: int
 
 
 def taken(run: Run) -> Taken:
-    """Runs a program whose output nobody reads. BenchmarkFault where it ends otherwise than it has to."""
+    """Runs a program whose output nobody reads; raises BenchmarkFault if it ends with another status."""
     with open(run.given, "rb") as given:
         words: list[Word] = [sys.executable, "-I", "-S", "-c", MEASURING, *run.words]
         done = subprocess.run(words, stdin=given, capture_output=True, text=True, errors="replace")
@@ -78,7 +78,7 @@ def turn_of(work: Work) -> tuple[Taken, Taken]:
 
 
 def least_of(works: Iterable[Work]) -> list[Taken]:
-    """What each takes, the least of several turns, all in each turn, so that other work meets all alike."""
+    """The least time of several turns for each; each turn runs all, so that other work affects all alike."""
     found = []
     for turns in zip(*([turn_of(work) for work in works] for _ in range(TURNS))):
         starts, runs = zip(*turns)

@@ -1,4 +1,4 @@
-"""The batches that are measured, as pieces of text: an agreement, messages of the series `north`, and questions."""
+"""The measured batches, as pieces of text: an agreement, messages of the series `north`, and questions."""
 
 from collections.abc import Iterator
 
@@ -11,7 +11,7 @@ EUROS = "Price,01,15.50,EUR,IE FR DE,,,20250101,\n"
 
 
 def message(number: int, records: list[str]) -> str:
-    """A message whose records between its first and its last are given."""
+    """A message with these records between its first and its last."""
     opening = f"Message,1,06,4012345000009,06,5012345678900,{number},1,20250301,,\n"
     return f"{opening}{''.join(records)}EndMessage,{len(records) + 1}\n"
 
@@ -26,7 +26,7 @@ def offered(product: int) -> list[str]:
 
 
 def offers(number: int, products: int) -> str:
-    """The message of that number, of so many new products: number 1 has the first ones."""
+    """The message of that number, with so many new products: number 1 has the first ones."""
     places = range((number - 1) * products + 1, number * products + 1)
     return message(number, [record for place in places for record in offered(place)])
 
@@ -46,7 +46,7 @@ def greatest_messages(count: int) -> Iterator[str]:
 
 
 def scattered(products: int, count: int) -> Iterator[str]:
-    """So many ISBNs of so many products of `offers`, each far from the one before it."""
+    """So many ISBNs among so many products of `offers`, each far from the one before it."""
     return (isbn(place * 7919 % products + 1) for place in range(count))
 
 

@@ -24,7 +24,7 @@ def build(words: Sequence[Word], folder: Path, packages: str) -> None:
 
 
 def records(folder: Path) -> Path:
-    """The program that reads and writes records by the crate `csv`, built by cargo without a network."""
+    """A program that reads and writes records with the crate `csv`, built by cargo without a network."""
     sources = folder / "records"
     made = sources / "target/release/records"
     if not made.exists():

@@ -1,4 +1,4 @@
-// The answer of a day: what book it is, the sentence that says what to do, what speaks against it, and the offers.
+// The answer for a day: which book it is, what to do, what to consider, and the offers.
 
 import { money } from "../text/amounts.js";
 import { inWords, timeInWords } from "../text/days.js";
@@ -15,13 +15,13 @@ import { offersTable } from "./offers-table.js";
 import { farInWords, farOf } from "./retail.js";
 import { conditionsOf, detailsOf, kindOfAnswer, sentenceOf, sumInWords } from "./words.js";
 
-/** That the chosen price is far from the recommended one, or from the next. */
+/** Warns that the chosen price is far from the recommended one, or from the next offer's. */
 function farNotes({ offers, choice, retail, question }) {
   const far = choice === null ? undefined : farOf(choice, { offers, retail, type: question.type });
   return far === undefined ? [] : [farInWords(far, choice, question.currency)];
 }
 
-/** Until when the price of the chosen offer holds, where it ends. */
+/** How long the price of the chosen offer holds, if it ends. */
 function untilNotes({ choice, ahead, question }, settings) {
   const until = choice === null ? undefined : ahead?.get(keyOf(choice));
   if (until?.last === undefined) return [];
@@ -31,7 +31,7 @@ function untilNotes({ choice, ahead, question }, settings) {
   return [say("article.until", { last, from, wholesaler, amount: money(until.then, question.currency) })];
 }
 
-/** Special net prices that wholesalers have beside those of the type that is asked for. */
+/** Special net prices of wholesalers, beside those of the requested type. */
 function specialNotes({ special = [], question }, settings) {
   return special.map(({ type, series, amount }) => say("article.special", {
     wholesaler: wholesalerOf(settings, series),
@@ -40,7 +40,7 @@ function specialNotes({ special = [], question }, settings) {
   }));
 }
 
-/** That wholesalers say recommended prices that differ. */
+/** Notes that wholesalers' recommended prices differ. */
 function retailNotes({ retail = [], question }, settings) {
   const priced = retail.filter(({ amount }) => amount !== null);
   if (new Set(priced.map(({ amount }) => amount)).size < 2) return [];
@@ -52,7 +52,7 @@ export class Answer {
   #place;
   #shown;
 
-  /** `place` has the settings, the reports, and `addressWith`, which gives the question with something else. */
+  /** `place` has the settings, the reports, and `addressWith`, which changes a part of the question. */
   constructor(place) {
     this.#place = place;
     place.reports.subscribe(() => this.#draw());
@@ -68,7 +68,7 @@ export class Answer {
     for (const id of ["title", "notes", "offers", "rules-list"]) found(id).replaceChildren();
   }
 
-  /** Shows the offers and the choice of a question; `before` is what was said until it changed. */
+  /** Shows the offers and the choice; `before` is the sentence that held until it changed. */
   show(answer, before) {
     this.#shown = answer;
     if (before !== undefined) {
@@ -79,7 +79,7 @@ export class Answer {
     this.#draw();
   }
 
-  /** Adds what is known of the shown answer by now: `copies`, `ahead`, `retail`, `special`, `titles`. */
+  /** Adds what has become known of the shown answer: `copies`, `ahead`, `retail`, `special`, `titles`. */
   add(parts) {
     Object.assign(this.#shown, parts);
     this.#draw();
@@ -90,7 +90,7 @@ export class Answer {
     return [this.#sentence(), sumInWords(this.#shown)].filter((words) => words !== "").join(": ");
   }
 
-  /** Says of which time the answer is. */
+  /** Shows when the answer was given. */
   noteTime(time) {
     found("answer-time").textContent = say("article.asOf", { time: timeInWords(time) });
   }
@@ -115,7 +115,7 @@ export class Answer {
     refill(found("title"), ...(said === undefined ? [] : titleSaid(said, this.#place.settings)));
   }
 
-  /** What stands below the sentence. */
+  /** The details below the sentence. */
   #details() {
     const link = catalogueLink(this.#shown.question.isbn, say("article.inCatalogue"), this.#place.settings);
     const parts = [...detailsOf(this.#shown), ...link];
@@ -163,14 +163,14 @@ export class Answer {
     found("answer").hidden = answer.offers.length === 0;
     if (answer.offers.length === 0) return;
     found("answer-heading").textContent = say("article.offers", { day: inWords(answer.question.day) });
-    // The focus stays at the link that has it.
+    // The focus stays at its link.
     const links = () => [...found("offers").querySelectorAll("a")];
     const at = links().indexOf(document.activeElement);
     refill(found("offers"), offersTable("answer-heading", answer, this.#place));
     if (at >= 0) links()[at]?.focus({ preventScroll: true });
   }
 
-  /** The shop's rules, which stand open where none of them takes an offer. */
+  /** The shop's rules, unfolded if none of them takes an offer. */
   #drawRules() {
     const { settings } = this.#place;
     const { rules } = settings;

@@ -1,4 +1,4 @@
-// The view of an article: the question, its answer, which is asked for anew each minute, and the calendar.
+// The view of an article: the question, its answer, which is refreshed each minute, and the calendar.
 
 import { addressOf, ASKED, readAddress } from "../text/address.js";
 import { isAbandoned } from "../desk/questions.js";
@@ -17,7 +17,7 @@ import { copiesInWords } from "./words.js";
 
 const MINUTE = 60_000;
 
-// How often the view looks whether its answer is a minute old.
+// How often the view checks whether its answer is a minute old.
 const LOOK = 5_000;
 
 // Special net prices: of a sale, and before publication.
@@ -25,7 +25,7 @@ const SPECIAL = ["15", "17", "25", "27"];
 
 const asText = (values) => JSON.stringify(ASKED.map((name) => values[name]));
 
-/** The view, over the settings and the reports on messages; `watch` is told when the desk is down and up. */
+/** The view, over the settings and the reports on messages; it tells `watch` when the desk goes down and up. */
 export class Article {
   #settings;
   #reports;
@@ -39,7 +39,7 @@ export class Article {
   #answered;
   #isAsking = false;
 
-  /** `order` gets what a buyer puts on its list. */
+  /** `order` gets what a buyer adds to the list. */
   constructor(settings, reports, watch, order) {
     this.#settings = settings;
     this.#reports = reports;
@@ -60,7 +60,7 @@ export class Article {
     document.addEventListener("visibilitychange", () => this.#look());
   }
 
-  /** Shows what the address asks for. */
+  /** Shows the question in the address. */
   show(given) {
     this.leave();
     this.#given = given;
@@ -79,24 +79,24 @@ export class Article {
     this.#stop();
   }
 
-  /** The title of the window, where an ISBN is asked for. */
+  /** The title of the window, if an ISBN is asked for. */
   title() {
     const { values } = readAll({ isbn: this.#given.isbn ?? "" });
     return values.isbn === undefined ? undefined : say("article.titled", values);
   }
 
-  /** Begins an ISBN at its first digit, which some other place of the page has got. */
+  /** Begins an ISBN with its first digit, which was typed elsewhere on the page. */
   beginIsbn() {
     this.#form.setIsbn("");
   }
 
-  /** Asks for what a scanner has read. */
+  /** Asks for a scanned ISBN. */
   scanned(code) {
     this.#form.setIsbn(code);
     this.#submit();
   }
 
-  /** Waits for no answer any longer. */
+  /** Stops waiting for answers. */
   #stop() {
     this.#asking.abort();
     this.#isAsking = false;
@@ -110,7 +110,7 @@ export class Article {
     this.#noteOutdated();
   }
 
-  /** Goes to the address of a question; where the page is there already, it is asked anew. */
+  /** Goes to the address of a question; if the page is there already, asks again. */
   #go(given) {
     const address = addressOf("article", given);
     if (location.hash !== address) {
@@ -130,12 +130,12 @@ export class Article {
       this.#clear();
       return;
     }
-    // A day is in the address where it is not today's, so that tomorrow the same address asks for that day.
+    // The address has the day only if it is not today, so that tomorrow the same address asks for tomorrow.
     const day = values.day === today() ? undefined : values.day;
     this.#go({ ...values, day });
   }
 
-  /** Dims an answer that is not that of the fields any more, and says so. */
+  /** Dims an answer that no longer belongs to the fields, and says so. */
   #noteOutdated() {
     const { values } = readAll(this.#form.asked());
     const isOutdated = this.#answered !== undefined && asText(values) !== this.#answered.asked;
@@ -154,14 +154,14 @@ export class Article {
     } else this.#go({ isbn });
   }
 
-  /** An answer that is a minute old is asked for anew, while somebody sees it. */
+  /** While somebody looks at it, an answer that is a minute old is refreshed. */
   #look() {
     if (this.#timer === undefined || this.#answered === undefined || this.#isAsking) return;
     const isSeen = document.visibilityState === "visible";
     if (isSeen && Date.now() - this.#answered.checked >= MINUTE) this.#askAnew();
   }
 
-  /** Does what asks the desk, unless nobody waits for it any longer. */
+  /** Runs something that asks the desk, unless nobody waits for it any longer. */
   async #whileWanted(questions) {
     this.#asking.abort();
     const asking = new AbortController();
@@ -173,12 +173,12 @@ export class Article {
       if (!isAbandoned(fault)) throw fault;
     } finally {
       if (!asking.signal.aborted) this.#isAsking = false;
-      // What was not waited for is asked no longer.
+      // The old questions end.
       asking.abort();
     }
   }
 
-  /** Asks what the texts say. */
+  /** Asks what the fields say. */
   async #ask() {
     const { values, problems } = readAll(this.#texts);
     this.#clear();
@@ -189,7 +189,7 @@ export class Article {
     });
   }
 
-  /** Shows the offers and the choice; nothing is answered where they were refused. */
+  /** Shows the offers and the choice; a refusal has neither. */
   async #askForDay(question, signal) {
     this.#answer.clear(say("article.asking"));
     const day = await askDay(question, signal, this.#watch);
@@ -202,7 +202,7 @@ export class Article {
     this.#answer.show(this.#answered);
   }
 
-  /** What an answer is told with: the title, and of offers the calendar, other copies, and prices of other types. */
+  /** Adds to an answer: the title, and, if there are offers, the calendar, other quantities and other price types. */
   async #askForMore(signal) {
     const { question, offers } = this.#answered;
     const add = async (name, asking) => {
@@ -222,7 +222,7 @@ export class Article {
     ]);
   }
 
-  /** The special net prices of a book, of the types that its wholesalers' messages had lately. */
+  /** The special net prices of a book, of the types that its wholesalers lately sent. */
   async #specialOf(otherwise) {
     const { question, offers } = this.#answered;
     await this.#reports.ready;
@@ -232,7 +232,7 @@ export class Article {
     return (await Promise.all(types.map(offersOf))).flat().filter(({ amount }) => amount !== null);
   }
 
-  /** The calendar of a year around the day, and until when each price holds. */
+  /** The calendar of a year around the day, and how long each price holds. */
   async #askForCalendar(question, signal) {
     const asked = { ...question, ...yearAround(question.day) };
     const outcome = await askCalendar(asked, signal, this.#watch);
@@ -245,13 +245,13 @@ export class Article {
     showCalendar({ offers, question: asked, choice: this.#answered.choice }, this.#settings);
   }
 
-  /** Says what the desk refused; after a fault of its own the shown answer is not asked for anew. */
+  /** Says what the desk refused. After a fault of the desk the shown answer is not refreshed. */
   #refused(outcome) {
     refuse(outcome);
     if (outcome.kind === "fault") this.#answered.checked = Infinity;
   }
 
-  /** Asks once more what is shown, and says what has changed. */
+  /** Asks again, and says what changed. */
   #askAnew() {
     const { question, asked } = this.#answered;
     return this.#whileWanted(async (signal) => {

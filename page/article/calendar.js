@@ -1,4 +1,4 @@
-// The calendar of prices over a year: a small picture with a lane for each offer, whose bars say what they are.
+// The calendar of prices over a year: a picture with a lane for each offer, whose bars are labelled.
 
 import { bareMoney, money } from "../text/amounts.js";
 import { dayInShort, fromDesk, inWords, lengthOf, plusDays } from "../text/days.js";
@@ -13,9 +13,9 @@ export function yearAround(day) {
 }
 
 /**
- * Of an offer's spans the one that has a day: its `amount`, `null` where there is no price, its `last` day,
- * and the amount `then`, from the day `from` on. These three are missing where the price holds to the end of
- * the calendar; `undefined` where the calendar leaves the day out.
+ * The span of an offer that has a day: its `amount`, or `null` without a price; its `last` day, and the amount `then`,
+ * from the day `from` on, which are missing if the price holds to the end of the calendar. `undefined` if the calendar
+ * does not have the day.
  */
 export function holdsUntil({ spans }, day) {
   const at = spans.findIndex(({ first, last }) => fromDesk(first) <= day && day <= fromDesk(last));
@@ -25,7 +25,7 @@ export function holdsUntil({ spans }, day) {
   return { amount, last: fromDesk(last), from: fromDesk(next.first), then: next.amount };
 }
 
-/** The bar of a span, as wide as it has days; the chosen offer's on the day asked for stands out. */
+/** The bar of a span, as wide as its days; the chosen offer's, on the day asked for, stands out. */
 function bar({ first, last, amount }, { currency, day }, isChosen) {
   const [from, until] = [fromDesk(first), fromDesk(last)];
   const days = { from: inWords(from), until: inWords(until) };
@@ -62,7 +62,7 @@ export function hideCalendar() {
   found("picture").replaceChildren();
 }
 
-/** Shows the `offers` of a calendar, its `question`, and the `choice` of the day asked for. */
+/** Shows the `offers` of a calendar, its `question`, and the `choice` on the day asked for. */
 export function showCalendar(calendar, settings) {
   const { from, until, day } = calendar.question;
   const ends = [from, until].map((end) => element("span", {}, dayInShort(end)));

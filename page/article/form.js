@@ -1,4 +1,4 @@
-// The fields of a question about an article: what they begin with, what is not as usual, and what is wrong with them.
+// The fields of a question about an article: their first values, what differs from the shop's, and what is wrong.
 
 import { ASKED } from "../text/address.js";
 import { inWords, isDay, today } from "../text/days.js";
@@ -6,28 +6,28 @@ import { element, found } from "../text/elements.js";
 import { readAll } from "../text/fields.js";
 import { codeInWords, codesOf, say, wordsOfCode } from "../text/wording.js";
 
-// The fields that stand behind "change".
+// The fields that "change" unfolds.
 const FOLDED = ["day", "country", "currency", "type"];
 
-/** The texts of all fields for what an address gives; without a day it is today. */
+/** The texts of all fields for an address; without a day it is today. */
 export function textsFor(given, { country, currency, type }) {
   return { isbn: "", day: today(), quantity: "1", country, currency, type, ...given };
 }
 
-/** Says what is wrong with a field, or, with the empty text, that nothing is. */
+/** Says what is wrong with a field; an empty text clears it. */
 function mark(name, words) {
   found(`${name}-wrong`).textContent = words;
   if (words === "") found(name).removeAttribute("aria-invalid");
   else found(name).setAttribute("aria-invalid", "true");
 }
 
-/** Unfolds the fields behind "change", or folds them. */
+/** Unfolds or folds the fields of "change". */
 function unfold(isOpen) {
   found("more").hidden = !isOpen;
   found("change").setAttribute("aria-expanded", String(isOpen));
 }
 
-/** Says what is wrong with the fields, the first of which gets the focus; gives whether nothing is. */
+/** Says what is wrong with the fields, focuses the first one, and returns whether none is. */
 export function markAll(problems) {
   for (const name of ASKED) mark(name, problems[name] ?? "");
   const wrong = ASKED.filter((name) => problems[name] !== undefined);
@@ -36,7 +36,7 @@ export function markAll(problems) {
   return wrong.length === 0;
 }
 
-/** Offers the types that have words, and one more where the address or desk.json names it. */
+/** Lists the types that have words, and the one that the address or desk.json names. */
 function fillTypes(chosen) {
   const codes = codesOf("priceTypes");
   if (/^\d\d$/.test(chosen) && !codes.includes(chosen)) codes.push(chosen);
@@ -65,13 +65,13 @@ export class Form {
     found("question-wrong").textContent = "";
   }
 
-  /** The next ISBN, typed or from a scanner, takes the place of this one. */
+  /** The next ISBN, typed or scanned, replaces this one. */
   focusIsbn() {
     found("isbn").focus({ preventScroll: true });
     found("isbn").select();
   }
 
-  /** Puts another ISBN in the place of this one; with the empty text the next digits are one. */
+  /** Replaces the ISBN; an empty text waits for the next digits. */
   setIsbn(text) {
     found("isbn").value = text;
     found("isbn").focus({ preventScroll: true });
@@ -82,7 +82,7 @@ export class Form {
     return Object.fromEntries(ASKED.map((name) => [name, found(name).value]));
   }
 
-  /** Says in one line what the folded fields have, and lets what is not as usual stand out. */
+  /** Says in one line what the folded fields have, and highlights what differs from the shop's. */
   describe() {
     const texts = this.asked();
     const read = { ...texts, ...readAll(texts).values };
@@ -104,7 +104,7 @@ export class Form {
   }
 }
 
-/** Says in words what the desk refused, or that it was not the desk that replied. */
+/** Says what the desk refused, or that the reply was not the desk's. */
 export function refuse({ kind, words }) {
   found("question-wrong").textContent = kind === "fault" ? `${words} ${say("article.notAgain")}` : words;
 }

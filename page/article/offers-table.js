@@ -1,4 +1,4 @@
-// The table of the offers of a day: what each costs, how much more than the chosen one, and until when.
+// The table of a day's offers: what each costs, how much more than the chosen one, and how long.
 
 import { compareAmounts, difference, money, signedMoney } from "../text/amounts.js";
 import { dayInShort } from "../text/days.js";
@@ -33,7 +33,7 @@ function priceCell({ amount }, { type, currency, quantity }) {
   return [element("span", { class: "lacking" }, words)];
 }
 
-/** How much more an offer costs than the chosen one, and, of one that costs less, why it is not chosen. */
+/** How much more an offer costs than the chosen one; if it costs less, why it is not chosen. */
 function differenceCell(offer, { choice, question }) {
   if (offer.amount === null) return [""];
   if (isChosen(offer, choice)) return ["–"];
@@ -42,7 +42,7 @@ function differenceCell(offer, { choice, question }) {
   return [words, " ", element("small", {}, sayCount("article.cheaper", choice.rule))];
 }
 
-/** The prices of an offer at the shop's numbers of copies; a link asks for each. */
+/** The prices of an offer at the shop's quantities; a link asks for each. */
 function copiesCell(offer, { question, copies }, { settings, addressWith }) {
   if (copies === undefined) return ["…"];
   const wholesaler = wholesalerOf(settings, offer.series);
@@ -58,7 +58,7 @@ function copiesCell(offer, { question, copies }, { settings, addressWith }) {
   return [element("ul", { class: "copies" }, ...items)];
 }
 
-/** Until when the price of an offer holds, where it ends within the calendar. */
+/** How long the price of an offer holds, if it ends within the calendar. */
 function holdsCell(offer, { ahead, question }) {
   const found = ahead?.get(keyOf(offer));
   if (found?.last === undefined || offer.amount === null) return [""];
@@ -81,15 +81,15 @@ function rowOf(offer, answer, place) {
   };
 }
 
-/** The offers in the order of their table: the chosen one first, then by price. */
+/** The offers as the table has them: the chosen one first, then by price. */
 function inOrder({ offers, choice }) {
   const weight = (offer) => (isChosen(offer, choice) ? 0 : 1);
   return [...offers].sort((one, other) => weight(one) - weight(other) || compareAmounts(one.amount, other.amount));
 }
 
 /**
- * The table of the offers of an answer, named by the heading with that id. `place` has the settings, the reports on
- * messages, and `addressWith`, which gives the address of the same question with something else in it.
+ * The table of the offers of an answer, labelled by the heading with that id. `place` has the settings, the reports on
+ * messages, and `addressWith`, which gives the address of the same question with one part changed.
  */
 export function offersTable(heading, answer, place) {
   const { question, choice } = answer;

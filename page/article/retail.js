@@ -1,12 +1,12 @@
-// The recommended price of a book, the margin that a net price leaves, and net prices that are far from it or from
-// those of others: a sign that a feed has a wrong one.
+// The recommended price of a book, the margin of a net price, and net prices that are far from it or from other offers:
+// a sign that a feed is wrong.
 
 import { compareAmounts, isNothing, money, times } from "../text/amounts.js";
 import { keyOf } from "../desk/offers.js";
 import { kindOf } from "../desk/price-types.js";
 import { formatter, say } from "../text/wording.js";
 
-/** The recommended price of an offer, by offers of that type: its own, else its wholesaler's, else another one's. */
+/** The recommended price of an offer: its own, or its wholesaler's, or another one's. */
 function retailOf(retail, offer) {
   const priced = (retail ?? []).filter(({ amount }) => amount !== null);
   const found = priced.find((other) => keyOf(other) === keyOf(offer))
@@ -15,7 +15,7 @@ function retailOf(retail, offer) {
   return found?.amount;
 }
 
-/** The recommended price of an offer and the margin, in words; none where there is none, or no net price. */
+/** The recommended price of an offer and the margin, in words; empty without one, or without a net price. */
 export function retailInWords(retail, offer, { type, currency }) {
   const found = kindOf(type) === "net" ? retailOf(retail, offer) : undefined;
   if (found === undefined || isNothing(found)) return [];
@@ -24,12 +24,12 @@ export function retailInWords(retail, offer, { type, currency }) {
   return [say("article.retail", { retail: money(found, currency), margin })];
 }
 
-// A fifth of a recommended price, or of the next offer's, is less than any wholesaler takes.
+// No wholesaler asks less than a fifth of the recommended price, or of the next offer's.
 const FAR = 5;
 
 /**
- * Why the net price of an offer may be wrong: `retail`, the recommended price that it is below a fifth of or above, or
- * `next`, the least other offer's price that it is below a fifth of; `undefined` where neither is.
+ * Why the net price of an offer may be wrong: `retail`, the recommended price, if it is above that or below a fifth of
+ * it; `next`, the least price of other offers, if it is below a fifth of that; else `undefined`.
  */
 export function farOf(offer, { offers, retail, type }) {
   if (kindOf(type) !== "net") return undefined;

@@ -1,4 +1,4 @@
-// What an answer says to do, in words: the one sentence, and what stands below it.
+// What an answer says to do, in words: one sentence, and the details below it.
 
 import { isNothing, money, times } from "../text/amounts.js";
 import { inWords, today } from "../text/days.js";
@@ -13,7 +13,7 @@ export function copiesInWords(quantity) {
   return sayCount("article.copies", Number(quantity));
 }
 
-/** What of a question is not as the shop asks mostly; empty where all is. */
+/** What differs from the shop's usual question; empty if nothing does. */
 export function conditionsOf({ day, country, currency, type }, settings) {
   const found = [
     ...(day === today() ? [] : [inWords(day)]),
@@ -24,7 +24,7 @@ export function conditionsOf({ day, country, currency, type }, settings) {
   return found.length === 0 ? "" : `${found.join(" · ")}:`;
 }
 
-/** What kind of thing an answer says: `none`, `unpriced`, `notChosen`, `free`, `net`, `retail` or `other`. */
+/** The kind of an answer: `none`, `unpriced`, `notChosen`, `free`, `net`, `retail` or `other`. */
 export function kindOfAnswer({ offers, choice, question }) {
   if (offers.length === 0) return "none";
   if (areUnpriced(offers)) return "unpriced";
@@ -33,7 +33,7 @@ export function kindOfAnswer({ offers, choice, question }) {
   return kind !== "retail" && isNothing(choice.amount) ? "free" : kind;
 }
 
-/** The sentence of an answer; `doubtful` are the wholesalers of whom something may be missing. */
+/** The sentence of an answer; of the `doubtful` wholesalers something may be missing. */
 export function sentenceOf(answer, settings, doubtful) {
   const kind = kindOfAnswer(answer);
   const { quantity, type, currency } = answer.question;
@@ -54,14 +54,14 @@ export function sentenceOf(answer, settings, doubtful) {
   });
 }
 
-/** What all copies of an answer cost, where the sentence says to buy; else the empty text. */
+/** What all copies cost, if the sentence says to buy; else an empty text. */
 export function sumInWords(answer) {
   if (kindOfAnswer(answer) !== "net") return "";
   const { quantity, currency } = answer.question;
   return money(times(answer.choice.amount, quantity), currency);
 }
 
-/** What stands below the sentence: the book, how it can be had, and what it brings. */
+/** The details below the sentence: the book, its availability, and the margin. */
 export function detailsOf(answer) {
   const { choice, question, retail } = answer;
   const parts = [say("article.answerFor", { isbn: question.isbn })];

@@ -4,15 +4,15 @@ import { element } from "../text/elements.js";
 import { undirected } from "../text/said.js";
 import { wordsOfCode } from "../text/wording.js";
 
-/** What tells an offer from all others. */
+/** The key of an offer. */
 export function keyOf({ series, reference, place }) {
   return JSON.stringify([series, reference, place]);
 }
 
-/** How an offer can be had, in words. */
+/** The availability of an offer, in words. */
 export const availabilityOf = ({ availability: code }) => wordsOfCode("availabilities", code) ?? code;
 
-/** The same behind a dot, by which what is there is seen from afar. */
+/** The same after a dot, whose colour shows from afar what is in stock. */
 export function availabilityDot(offer) {
   return element("span", { class: `dot from-${offer.availability}` }, availabilityOf(offer));
 }
@@ -22,7 +22,7 @@ export function areUnpriced(offers) {
   return offers.every(({ amount }) => amount === null);
 }
 
-/** The reference of an offer, in whatever script, with its place where that is not the first. */
+/** The reference of an offer, in any script, with its place if that is not the first. */
 export function referenceOf({ reference, place }) {
   return element("bdi", {}, place === 1 ? undirected(reference) : `${undirected(reference)} (${place})`);
 }

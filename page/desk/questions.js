@@ -1,4 +1,4 @@
-// Questions to the desk, which stands behind the page's own web server at `desk/`.
+// Questions to the desk, which is behind the page's own web server at `desk/`.
 
 import { urlBeside } from "../text/address.js";
 import { say, wordsOfCode } from "../text/wording.js";
@@ -6,16 +6,16 @@ import { say, wordsOfCode } from "../text/wording.js";
 const REPLY_SECONDS = 15;
 const AGAIN_SECONDS = 5;
 
-// The desk or the web server cannot answer just now; 429 is the web server's, asked too often.
+// The desk or the web server cannot answer now; 429 comes from the web server, which was asked too often.
 const DOWN = [429, 502, 503, 504];
 
-// Of these, that no reply of the desk came.
+// Those of them without a reply of the desk.
 const LOST = [502, 504];
 
-// Faults of the desk's storage that asking again makes no better, or worse.
+// Faults of the desk's storage that asking again does not cure, or makes worse.
 const LASTING = ["memory", "size"];
 
-// A question that any desk answers at once: about a series that none has.
+// A question that any desk answers at once: about a series that does not exist.
 const IS_THERE = "series/is-the-desk-there/gaps";
 
 function urlOf(path, keys) {
@@ -24,7 +24,7 @@ function urlOf(path, keys) {
   return url;
 }
 
-/** What a reply's JSON is, or `undefined` where it is none. */
+/** The JSON of a reply, or `undefined`. */
 async function bodyOf(reply) {
   const text = await reply.text();
   try {
@@ -34,7 +34,7 @@ async function bodyOf(reply) {
   }
 }
 
-/** What a reply of a desk that is down says; a `fault` where asking again by itself would be no good. */
+/** What to say while the desk is down; a `fault` if asking again would not help. */
 function downOutcome(status, body) {
   const reason = wordsOfCode("down.reasons", body?.reason) ?? "";
   const words = [say(`down.${status}`), reason].join(" ").trim();
@@ -42,10 +42,10 @@ function downOutcome(status, body) {
   return { kind: isLasting ? "fault" : "down", words, isOfDesk: status === 503, isLost: LOST.includes(status) };
 }
 
-// The words of refusals that say more than the desk's own word.
+// Words for refusals that say more than the desk's reason.
 const REFUSALS = { "bad-query": "wrong.query", "unknown-series": "wrong.series" };
 
-/** A reply to a question as an answer, a refusal, a desk that is down, or something else; all but the first with `words`. */
+/** A reply as an answer, a refusal, a desk that is down, or something else; all but the first have `words`. */
 function outcomeOf(status, body, path) {
   if (DOWN.includes(status)) return downOutcome(status, body);
   if (body?.answer === "refused") {
@@ -57,7 +57,7 @@ function outcomeOf(status, body, path) {
   return { kind: "strange", words: say(words, { status }) };
 }
 
-/** Asks once. Throws `AbortError` where `signal` says that nobody waits for it any longer. */
+/** Asks once. Throws `AbortError` if `signal` says that nobody waits for it any longer. */
 async function askOnce(path, keys, signal) {
   const late = new AbortController();
   const stop = () => late.abort();
@@ -91,7 +91,7 @@ function tellDown(watch, { words }) {
   watch.down(`${words} ${say("down.again", { seconds: AGAIN_SECONDS })}`);
 }
 
-// What is done one after the other.
+// Tasks that run one after the other.
 let turn = Promise.resolve();
 
 function inTurn(act) {
@@ -100,7 +100,7 @@ function inTurn(act) {
   return done;
 }
 
-/** Asks once more what had no reply, as soon as the desk answers another question. */
+/** Asks again what got no reply, as soon as the desk answers another question. */
 async function askOnceThere(path, keys, signal, watch) {
   for (;;) {
     signal.throwIfAborted();
@@ -112,10 +112,10 @@ async function askOnceThere(path, keys, signal, watch) {
 }
 
 /**
- * Asks until the desk answers or refuses, or until asking again by itself would be no good: where the desk lacks
- * memory, and where a question has had no reply twice although the desk is there, since it may end by it. Of
- * several questions without a reply one is asked again after the other, so that such a one takes no other with it.
- * While the desk is down, `watch.down` has the words for it; `watch.up` is called where it replies.
+ * Asks until the desk answers or refuses, or until asking again would not help: the desk lacks memory, or a question
+ * got no reply twice although the desk is there, since it may end the desk. Questions without a reply are asked again
+ * one after the other, so that such a one takes no other with it. While the desk is down, `watch.down` gets the words
+ * for it; `watch.up` is called when it replies.
  */
 export async function ask(path, keys, signal, watch) {
   let outcome = await askOnce(path, keys, signal);
@@ -131,7 +131,7 @@ export async function ask(path, keys, signal, watch) {
   return outcome;
 }
 
-/** Whether a fault says that nobody waits for an answer any longer. */
+/** Whether a fault means that nobody waits for the answer any longer. */
 export function isAbandoned(fault) {
   return fault.name === "AbortError";
 }

@@ -1,5 +1,5 @@
-// desk.json, which the operator writes: the series, what the fields begin with, and the page's language. What is wrong with
-// it is a `path` of the words for it, and `values`.
+// desk.json, which the operator writes: the series, first values of the fields, and the page's language. A problem is a
+// `path` of its words, and `values`.
 
 import { urlBeside } from "../text/address.js";
 import { isCatalogue } from "../article/catalogue.js";
@@ -21,13 +21,13 @@ function isLanguage(value) {
   }
 }
 
-/** Whether a value is a list of numbers of copies, each greater than the one before it. */
+/** Whether a value is a list of quantities, each greater than the one before it. */
 function areQuantities(value) {
   if (!Array.isArray(value) || value.length > MOST_QUANTITIES) return false;
   return value.every((count, at) => isCount(count, 999_999) && !(value[at - 1] >= count));
 }
 
-// The keys of the shop: what each may be, under which name the page has it, and what it is where it may be left out.
+// The keys of the shop: what each may be, the page's name for it, and its default.
 const SHOP = {
   country: [isLike(/^[A-Z]{2}$/), "country"],
   currency: [isLike(/^[A-Z]{3}$/), "currency"],
@@ -53,10 +53,10 @@ const SERIES = {
   csv: [(value) => wrongKey(value) === undefined, "csv", {}],
 };
 
-// What desk-prices reads, and tells of itself.
+// desk-prices reads this key, and reports what is wrong with it.
 const OF_OTHERS = ["price_file"];
 
-/** What is right of an object, under the names that the page has for its keys; `values` go into each problem. */
+/** The right values of an object, under the page's names for its keys; `values` go into each problem. */
 function readKeys(given, keys, known, problems, values) {
   const found = {};
   for (const [key, [isRight, name, otherwise = ""]] of Object.entries(keys)) {
@@ -75,7 +75,7 @@ function readKeys(given, keys, known, problems, values) {
   return found;
 }
 
-/** The series that have a name of their own; of another one it is told what is wrong. */
+/** The series with a name of their own; problems name the others. */
 function readAllSeries(given, problems) {
   const found = [];
   for (const [at, item] of given.entries()) {
@@ -96,7 +96,7 @@ function settingsOf(given, problems) {
   return { series: [], ...settings };
 }
 
-/** The settings of a text, those that are right, with what is wrong with the others. */
+/** The right settings of a text, and what is wrong with the others. */
 export function readSettings(text) {
   const problems = [];
   try {
@@ -108,7 +108,7 @@ export function readSettings(text) {
   }
 }
 
-/** The settings of the page's desk.json, with what is wrong with it. */
+/** The settings of the page's desk.json, with the problems. */
 export async function loadSettings() {
   try {
     const reply = await fetch(urlBeside("desk.json"));
@@ -119,7 +119,7 @@ export async function loadSettings() {
   }
 }
 
-/** The words of a series, or its name where it has none. */
+/** The words of a series, or else its name. */
 export function wholesalerOf(settings, name) {
   return settings.series.find((series) => series.name === name)?.words ?? name;
 }

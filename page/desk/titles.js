@@ -1,5 +1,5 @@
-// Titles of books. They stand in files beside the page, by ISBN, as wholesalers' feeds said them last: no answer of
-// the desk has them, and nobody has proved them.
+// Titles of books, as wholesalers' feeds said them last. They lie in files beside the page, by ISBN: no answer of the
+// desk has them, and nobody has proved them.
 
 import { urlBeside } from "../text/address.js";
 import { element } from "../text/elements.js";
@@ -7,28 +7,28 @@ import { shortened, undirected } from "../text/said.js";
 import { wholesalerOf } from "./settings.js";
 import { say, sayParts } from "../text/wording.js";
 
-// What is not there is answered 204, or 404 by a server that is not asked for titles.
+// A missing file is answered 204, or 404 by a server that has no titles.
 const FOUND = 200;
 const NONE = [204, 404];
 
-// An entry has a series, a number and a moment, and, unless that was a deletion, title, subtitle, contributors and
-// publisher behind them.
+// An entry has a series, a number and a moment, and, unless it is a deletion, then title, subtitle, contributors and
+// publisher.
 const HEAD = 3;
 const LENGTH = 7;
 
-// How many letters of each part are shown, so that none pushes out of sight who said it, and what others say.
+// How many letters of each part are shown, so that none hides who said it, or what others say.
 const MOST_LETTERS = 120;
 
 const areTexts = (values) => values.every((value) => typeof value === "string");
 const isTitle = (entry) =>
   Array.isArray(entry) && entry.length === LENGTH && areTexts([entry[0], ...entry.slice(HEAD)]);
 
-/** The address of the file that has the title of an ISBN. */
+/** The address of the file with the title of an ISBN. */
 export function fileOf(isbn) {
   return `state/titles/${isbn.slice(0, 5)}/${isbn.slice(0, 8)}.json`;
 }
 
-/** What a file says of an ISBN: the titles that feeds said last, one of each series, the last taken first. */
+/** The titles that a file has for an ISBN: the last one of each series, the last taken first. */
 function titlesIn(file, isbn) {
   const entries = Object.hasOwn(file, isbn) ? file[isbn] : [];
   const found = Array.isArray(entries) ? entries.filter(isTitle) : [];
@@ -38,8 +38,8 @@ function titlesIn(file, isbn) {
 }
 
 /**
- * The titles of each of these ISBNs of one file, by ISBN: an empty list where no feed said one, and nothing of any
- * where the file cannot be read. Throws `AbortError` where nobody waits for it any longer.
+ * The titles of each of these ISBNs of one file, by ISBN: an empty list if no feed said one, and none at all if the
+ * file cannot be read. Throws `AbortError` if nobody waits for it any longer.
  */
 export async function titlesOf(isbns, signal) {
   try {
@@ -53,12 +53,12 @@ export async function titlesOf(isbns, signal) {
   }
 }
 
-// The codes of roles, behind names.
+// The codes of contributors' roles, after their names.
 const ROLE = / \([A-Z]\d\d\)/g;
 
 /**
- * The titles of the series that offer a book, that of the `chosen` offer first: a feed may name any ISBN, and what it
- * says of one that it does not offer counts for nothing.
+ * The titles of the series that offer a book, the `chosen` offer's first. A feed may name any ISBN; what it says of one
+ * that it does not offer does not count.
  */
 export function titlesOfOffers(titles, offers, chosen) {
   const names = offers.map(({ series }) => series);
@@ -68,7 +68,7 @@ export function titlesOfOffers(titles, offers, chosen) {
 
 const bare = (text) => text.normalize("NFKD").toLowerCase().replace(/[^\p{L}\p{N}]+/gu, "");
 
-/** Whether two titles are one but for case and punctuation, with their subtitles or without. */
+/** Whether two titles are the same but for case, punctuation and subtitle. */
 function isSame(one, other) {
   const [first, second] = [one, other].map(({ title, subtitle }) => [bare(title), bare(title + subtitle)]);
   return first.some((text) => second.includes(text));
@@ -79,7 +79,7 @@ export function differing([first, ...others]) {
   return first === undefined ? [] : others.filter((other) => !isSame(first, other));
 }
 
-/** A title in texts: with its subtitle, contributors, publisher; none where there is none. */
+/** A title as texts: with its subtitle, contributors, publisher; empty if there is none. */
 export function titleTexts(titles) {
   if (titles.length === 0) return [];
   const [{ title, subtitle, contributors, publisher }] = titles;
@@ -87,7 +87,7 @@ export function titleTexts(titles) {
   return [whole, contributors.replace(ROLE, ""), publisher].map(undirected).filter((text) => text !== "");
 }
 
-/** That others say another title, which is a sign of a wrong ISBN. */
+/** Notes that others say another title, a sign of a wrong ISBN. */
 function differNodes(titles, settings) {
   return differing(titles).flatMap(({ series, title }) => [
     " · ",
@@ -97,7 +97,7 @@ function differNodes(titles, settings) {
   ]);
 }
 
-/** The same as nodes: the title as what it is, a text of others. Empty where no feed said one. */
+/** The same as nodes: the title marked as a text from others. Empty if no feed said one. */
 export function titleNodes(titles, settings) {
   const [title, ...others] = titleTexts(titles);
   if (title === undefined) return [];
@@ -107,7 +107,7 @@ export function titleNodes(titles, settings) {
   return [element("span", whole, quoted, ...behind), ...differNodes(titles, settings)];
 }
 
-/** The same with whose feed said it, and that it is not proved, or that none did. */
+/** The same, with whose feed said it and that it is not proved; or that none did. */
 export function titleSaid(titles, settings) {
   if (titles.length === 0) return [element("small", {}, say("titles.none"))];
   const said = say("titles.said", { wholesaler: wholesalerOf(settings, titles[0].series) });

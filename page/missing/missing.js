@@ -1,4 +1,4 @@
-// The view of missing messages: for each wholesaler how its series stands, and a letter that asks for what is missing.
+// The view of missing messages: how each wholesaler's series stands, and a letter that asks for what is missing.
 
 import { timeInWords } from "../text/days.js";
 import { copyText } from "../text/clipboard.js";
@@ -8,7 +8,7 @@ import { say } from "../text/wording.js";
 import { rangesInShort, requestFor } from "./request.js";
 import { restInWords, termsInWords } from "./series.js";
 
-/** From which number to which the messages of a series are in use, by its report. */
+/** The first and the last message of a series that are in use, by its report. */
 export function standsInWords({ first, next }) {
   if (next === first) return say("missing.nothingYet", { next });
   return say("missing.stands", { ranges: rangesInShort([[first, next - 1]]), next });
@@ -27,13 +27,13 @@ function mailLink(text, series) {
   return [" ", element("a", { href, class: "button" }, say("missing.mail", { mail: series.mail }))];
 }
 
-/** What is missing by the desk's numbers, and the letter that asks for it. */
+/** What is missing, by the desk's numbers, and the letter that asks for it. */
 function missingPart(report, series, settings) {
   const text = requestFor(report, series, settings);
   if (text === undefined) return [element("p", {}, say("missing.noLetter"))];
   const done = element("div", { class: "copied", role: "status" });
   const button = element("button", { type: "button", class: "main" }, say("missing.copy", { wholesaler: series.words }));
-  // The day of the request is that on which it is copied.
+  // The request has the day on which it is copied.
   button.addEventListener("click", () => copy(requestFor(report, series, settings), series, done));
   return [
     element("p", {}, say("missing.ask", { wholesaler: series.words })),
@@ -45,7 +45,7 @@ function missingPart(report, series, settings) {
 /** Why there is no report. */
 const refusalInWords = ({ kind, words }) => (kind === "fault" ? `${words} ${say("missing.notAgain")}` : words);
 
-/** What a card says of a series, in nodes. */
+/** The contents of a card about a series, as nodes. */
 function cardParts(series, reports, settings) {
   const { name } = series;
   const [report, state, reasons] = [reports.reportOf(name), reports.stateOf(name), reports.reasonsOf(name)];
@@ -61,7 +61,7 @@ function cardParts(series, reports, settings) {
   return parts;
 }
 
-/** The view, over the settings and the reports; `watch` is told when the desk is down and up. */
+/** The view, over the settings and the reports; it tells `watch` when the desk goes down and up. */
 export class Missing {
   #settings;
   #reports;
@@ -86,7 +86,7 @@ export class Missing {
     this.#reports.leave();
   }
 
-  /** Says something in the live region, unless it is what stands there. */
+  /** Announces something in the live region, unless that has it already. */
   #say(words) {
     const place = found("missing-status");
     if (place.textContent !== words) place.textContent = words;
@@ -99,13 +99,13 @@ export class Missing {
     const names = this.#reports.doubtful();
     const wholesalers = names.map((name) => wholesalerOf(this.#settings, name)).join(", ");
     this.#say(names.length === 0 ? say("missing.allThere") : say("missing.someStop", { wholesalers }));
-    // What is as it was keeps what the buyer has in hand there.
+    // An unchanged card keeps what the buyer is doing there.
     const state = JSON.stringify(series.map(({ name }) => (
       [this.#reports.outcomeOf(name), this.#reports.reasonsOf(name), this.#reports.stateOf(name)?.heard_at]
     )));
     if (state === this.#shown) return;
     this.#shown = state;
-    // What somebody should look at comes first.
+    // Cards that somebody should look at come first.
     const ordered = [...series].sort((one, other) => names.includes(other.name) - names.includes(one.name));
     found("series").replaceChildren(...ordered.map((each) => this.#card(each, names.includes(each.name))));
   }

@@ -1,4 +1,4 @@
-// How the series of desk.json stand, asked for once a minute while somebody sees the page: of the desk, and of the inbox.
+// How the series of desk.json stand, asked of the desk and the inbox once a minute while somebody sees the page.
 
 import { ask, isAbandoned } from "../desk/questions.js";
 import { element } from "../text/elements.js";
@@ -38,7 +38,7 @@ export class Reports {
     this.#listeners.push(listener);
   }
 
-  /** Asks at once, and once a minute from then on; `watch` is told when the desk is down and up, until they are left. */
+  /** Asks at once, and then once a minute; `watch` hears when the desk goes down and up, until the view is left. */
   begin(watch = NOBODY) {
     this.#watch = watch;
     clearTimeout(this.#timer);
@@ -47,40 +47,40 @@ export class Reports {
     this.#round(this.#asking.signal);
   }
 
-  /** Asks on, and tells nobody when the desk is down: the view that is seen does. */
+  /** Asks on, without telling when the desk goes down: the view that is shown does. */
   leave() {
     this.#watch.up();
     this.#watch = NOBODY;
   }
 
-  /** What came of a series: its report, or what is no answer; `undefined` where nothing came yet. */
+  /** The report of a series, or why there is none; `undefined` if nothing has come yet. */
   outcomeOf(name) {
     return this.#outcomes.get(name);
   }
 
-  /** What the inbox says of a series; `undefined` where that cannot be seen. */
+  /** What the inbox says of a series; `undefined` if it cannot be seen. */
   stateOf(name) {
     return this.#states.get(name);
   }
 
-  /** The desk's report on a series; `undefined` where there is none. */
+  /** The desk's report on a series; `undefined` without one. */
   reportOf(name) {
     const outcome = this.#outcomes.get(name);
     return outcome?.kind === "answer" ? outcome.body : undefined;
   }
 
-  /** Why prices of a series may be old, each reason in words: what is not known yet cannot be seen. */
+  /** Why prices of a series may be old, each reason in words. What is not known yet cannot be seen. */
   reasonsOf(name) {
     if (!this.#settings.series.some((series) => series.name === name)) return [say("missing.reasons.unwatched")];
     return reasonsOf(this.#states.get(name), this.reportOf(name), Date.now() / 1000);
   }
 
-  /** The names of the series of which somebody should look. */
+  /** The names of the series that somebody should look at. */
   doubtful() {
     return this.#settings.series.map(({ name }) => name).filter((name) => this.reasonsOf(name).length > 0);
   }
 
-  /** Asks about each series, one after the other: the desk answers one question at a time. */
+  /** Asks about the series one after the other: the desk answers one question at a time. */
   async #round(signal) {
     const begun = Date.now();
     const watch = { down: (words) => this.#watch.down(words), up: () => this.#watch.up() };
@@ -95,13 +95,13 @@ export class Reports {
     }
     this.time = Date.now();
     for (const listener of this.#listeners) listener();
-    // Nobody is told anything in a tab that nobody sees.
+    // A tab that nobody sees tells nothing.
     const next = () => document.visibilityState === "visible" && this.begin(this.#watch);
     this.#timer = setTimeout(next, Math.max(0, begun + MINUTE - Date.now()));
   }
 }
 
-/** Why prices of series may be old, a note for each in nodes, with a link to where it is told at length. */
+/** Why prices of series may be old, a note for each as nodes, with a link to the details. */
 export function messagesNotes(names, reports, settings) {
   return names.flatMap((name) => {
     const reasons = reports.reasonsOf(name);

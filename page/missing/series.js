@@ -1,25 +1,25 @@
-// How a wholesaler's files stand, as the inbox says in /state/NAME.json and the desk in its report: complete, only the time
-// of the last file, or a reason to stop and look. What cannot be seen is never complete.
+// How a wholesaler's files stand, from the inbox's /state/NAME.json and the desk's report: complete, only the time of
+// the last file, or a reason to stop and look. What cannot be seen is never complete.
 
 import { urlBeside } from "../text/address.js";
 import { momentInWords } from "../text/days.js";
 import { inDigits, say, sayCount } from "../text/wording.js";
 import { allOf, rangesInShort } from "./request.js";
 
-// The inbox writes its file at each run; an older one says nothing of now.
+// The inbox writes its file at each run; an older one says nothing about now.
 const FRESH_SECONDS = 15 * 60;
 
 const isCount = (value) => Number.isSafeInteger(value) && value >= 0;
 const isTime = (value) => value === null || isCount(value);
 const isFlag = (value) => typeof value === "boolean";
 
-// What a file has to have, so that it can be read.
+// What a file must have to be read.
 const KEYS = {
   at: isCount, numbered: isFlag, desk: isFlag, silent: isFlag, waiting: isCount, quarantined: isCount, refused: isCount,
   heard_at: isTime, older_terms: isCount, prices: Array.isArray,
 };
 
-/** What a text of the inbox says; `undefined` where it cannot be read. */
+/** The state in a text of the inbox; `undefined` if it cannot be read. */
 export function readState(text) {
   try {
     const found = JSON.parse(text);
@@ -30,7 +30,7 @@ export function readState(text) {
   }
 }
 
-/** The file of a series; `undefined` where there is none, or it cannot be read. */
+/** The state of a series; `undefined` if its file is missing or cannot be read. */
 export async function loadState(name, signal) {
   try {
     const reply = await fetch(urlBeside(`state/${name}.json`), { cache: "no-store", signal });
@@ -42,8 +42,8 @@ export async function loadState(name, signal) {
 }
 
 /**
- * Why somebody should stop and look at a series, each reason in words: by its `state` of the inbox and the `report` of
- * the desk, either of which may be `undefined`, at a time in seconds.
+ * Why somebody should stop and look at a series, each reason in words: by the inbox's `state` and the desk's `report`,
+ * either of which may be `undefined`, at a time in seconds.
  */
 export function reasonsOf(state, report, seconds) {
   const isSeen = state !== undefined && seconds - state.at <= FRESH_SECONDS;
@@ -67,19 +67,19 @@ export function reasonsOf(state, report, seconds) {
   return found;
 }
 
-/** What is said of a series of which nothing speaks against: that it is complete, or when its last file came. */
+/** What is said of a series without such a reason: that it is complete, or when its last file came. */
 export function restInWords({ numbered, heard_at: heardAt }) {
   if (numbered) return say("missing.complete");
   return heardAt === null ? say("missing.noFileYet") : say("missing.lastFile", { time: momentInWords(heardAt) });
 }
 
-/** The price types in the currency that the messages of a series had lately. */
+/** The price types in the currency that lately came in messages of a series. */
 export function typesIn(state, currency) {
   const pairs = (state?.prices ?? []).filter((pair) => Array.isArray(pair) && pair[1] === currency);
   return pairs.map(([type]) => type).filter((type) => typeof type === "string");
 }
 
-/** Of how many articles the prices are by an older table of terms, in words; empty where of none. */
+/** How many articles have prices by an older table of terms, in words; empty if none has. */
 export function termsInWords(state) {
   return state?.older_terms > 0 ? say("missing.olderTerms", { count: inDigits(state.older_terms) }) : "";
 }

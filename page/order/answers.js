@@ -1,19 +1,19 @@
-// What the desk answered about a row of an order list: what is ordered of it, why a person should look, and sums.
+// The desk's answer about a row of an order list: what is ordered, why a person should look, and sums.
 
 import { compareAmounts, difference, isNothing, sumOf, times } from "../text/amounts.js";
 import { today } from "../text/days.js";
 import { farOf } from "../article/retail.js";
 import { keyOf } from "../desk/offers.js";
 
-/** By which an answer is kept: the book, how many copies, and the day. */
+/** The key of an answer: the book, the number of copies, and the day. */
 export const askedOf = ({ isbn, copies }) => `${isbn} ${copies} ${today()}`;
 
-/** By which it is kept that a row was answered otherwise before. */
+/** The key under which a changed answer is remembered. */
 export const changeOf = ({ key, copies }) => `${key} ${copies}`;
 
 export const isPriced = ({ amount }) => amount !== null;
 
-/** The offer that the rules take, or, of a row whose wholesaler a hand chose, that one's: `offer`, or a `need`. */
+/** The offer that the rules take, or that of the wholesaler chosen by hand: `offer`, or a `need`. */
 function offerOf({ series }, { choice, offers }) {
   if (offers.length === 0) return { need: "noOffers" };
   const chosen = choice === null ? undefined : offers.find((offer) => keyOf(offer) === keyOf(choice));
@@ -29,7 +29,7 @@ function offerOf({ series }, { choice, offers }) {
   return priced.length === 1 ? { offer: priced[0] } : { need: "handSeveral" };
 }
 
-/** A reason why a person should look, for those copies of that offer, by which it is known that somebody has. */
+/** Why a person should look at these copies of this offer: the key under which it is confirmed. */
 export function confirmKey(need, { copies }, offer) {
   return JSON.stringify([need, copies, keyOf(offer), offer.amount]);
 }
@@ -38,8 +38,8 @@ export function confirmKey(need, { copies }, offer) {
 export const CONFIRMABLE = ["changed", "free", "far", "many"];
 
 /**
- * What stands at a row: `offer`, which is ordered, or none, and `need`, why a person should look, or none. `shop` has
- * the most copies that need nobody (`manyCopies`) and the `type` of the prices; what was `confirmed` needs nobody.
+ * The state of a row: `offer`, which is ordered, if any, and `need`, why a person should look, if so. `shop` has the
+ * most copies without a need (`manyCopies`) and the price `type`; what was `confirmed` has no need.
  */
 export function stateOf(row, answer, { manyCopies, type, confirmed, changes }) {
   if (answer === undefined) return {};
@@ -56,14 +56,14 @@ export function stateOf(row, answer, { manyCopies, type, confirmed, changes }) {
   return { offer, need: open };
 }
 
-/** The offer of the same answer that costs least and less than what is ordered, with what it saves. */
+/** The cheapest offer of the same answer, if it is cheaper than the ordered one, with what it saves. */
 export function savingOf({ offers }, ordered, copies) {
   const [least] = offers.filter(isPriced).sort((one, other) => compareAmounts(one.amount, other.amount));
   if (compareAmounts(least.amount, ordered.amount) >= 0) return undefined;
   return { offer: least, amount: times(difference(ordered.amount, least.amount), copies) };
 }
 
-/** Who offers a book without a price of the type that is asked for. */
+/** Who offers a book without a price of the requested type. */
 export function unpricedOf({ offers }) {
   const priced = offers.filter(isPriced).map(({ series }) => series);
   return [...new Set(offers.map(({ series }) => series))].filter((series) => !priced.includes(series));
@@ -77,7 +77,7 @@ function summed(rows) {
   };
 }
 
-/** The sums of ordered rows: of each series, in their order, and of all. */
+/** The sums of ordered rows: of each series, in order, and of all. */
 export function sumsOf(rows) {
   const names = [...new Set(rows.map(({ state }) => state.offer.series))];
   const ofSeries = (name) => summed(rows.filter(({ state }) => state.offer.series === name));

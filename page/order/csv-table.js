@@ -1,30 +1,29 @@
-// A table that is pasted or opened, as a buyer turns it into lines of an order list: no heading is read, and no column
-// guessed.
+// A pasted or opened table, which a buyer turns into lines of an order list: no heading is read, and no column guessed.
 
 import { goodOf, linesOf } from "./text.js";
 import { plain } from "../text/isbn.js";
 import { isbnIn, isLikeIsbn, readLine } from "./line.js";
 
-/** What may stand between the cells of a row. */
+/** The separators of a row. */
 export const SEPARATORS = ["\t", ";", ","];
 
 const rowsIn = (text) => linesOf(text).filter(({ kind }) => kind !== "blank");
 
-/** Whether a text is a table: with a separator in most rows, and under half of them good lines. */
+/** Whether a text is a table: most rows have a separator, and fewer than half are good lines. */
 export function isTable(text) {
   const rows = rowsIn(text);
   const cut = rows.filter((row) => SEPARATORS.some((sign) => row.text.includes(sign)));
   return cut.length * 2 > rows.length && goodOf(rows).length * 2 < rows.length;
 }
 
-/** The separator that most rows of a text have. */
+/** The separator that most rows have. */
 export function separatorIn(text) {
   const rows = rowsIn(text);
   const countOf = (sign) => rows.filter((row) => row.text.includes(sign)).length;
   return SEPARATORS.reduce((best, sign) => (countOf(sign) > countOf(best) ? sign : best));
 }
 
-/** The end of a quoted cell that begins at a place: behind the quote before a separator, a line's end or the text's. */
+/** Where a quoted cell ends: behind the quote before a separator, the end of a line or of the text. */
 function quoteEnd(text, start, separator) {
   const pattern = new RegExp(`"(?=\\n|$|[${separator}])`, "g");
   for (let at = start + 1; ; at = pattern.lastIndex) {
@@ -36,7 +35,7 @@ function quoteEnd(text, start, separator) {
   }
 }
 
-/** The cell at a place, with where it ends. */
+/** The cell at a place, and where it ends. */
 function cellAt(text, start, separator) {
   const quoted = text[start] === '"' ? quoteEnd(text, start, separator) : undefined;
   if (quoted !== undefined) {
@@ -49,8 +48,8 @@ function cellAt(text, start, separator) {
 }
 
 /**
- * The rows of a text, each its `text` and a list of `cells`; of one with a line break in a cell that has something like
- * an ISBN, `isUnsure`: a quote may stand there that nobody closed.
+ * The rows of a text, each with its `text` and its `cells`. A row with a line break in a cell and something like an
+ * ISBN `isUnsure`: a quote may never have been closed.
  */
 export function parse(text, separator) {
   const rows = [];
@@ -78,10 +77,10 @@ export function widthOf(rows) {
 /** A cell without what a spreadsheet puts around digits that are a text. */
 const bare = (cell) => plain(cell).replace(/^="(.*)"$/, "$1").replace(/^'/, "").trim();
 
-/** A row as a line that is marked, whatever stands in it. */
+/** A row as a marked line, whatever it has. */
 const asMarked = (cells) => `${cells.join("; ")}${cells.length < 2 ? ";" : ""}`.replace(/[#@]/g, " ");
 
-/** The line of a row whose cells of the ISBN and the copies are known. */
+/** The line of a row, from its cells of the ISBN and the copies. */
 function lineOf({ cells, isUnsure }, { isbn, copies, notes }) {
   const [book, count] = [bare(cells[isbn]), bare(cells[copies])];
   const note = notes.map((at) => cells[at]).filter((cell) => cell !== "").join(", ");
@@ -95,9 +94,9 @@ function lineOf({ cells, isUnsure }, { isbn, copies, notes }) {
 const hasBook = ({ cells }) => cells.some(isLikeIsbn);
 
 /**
- * The lines of a table, whose columns are named by their places: `isbn`, `copies`, and the `notes`. A row that has
- * letters for its copies, and no book, is a heading: the first row is passed over, unless its ISBN begins with
- * digits, and a later one ends the table; `rest` are the rows from that one on. `zeros`: so many rows had 0 copies.
+ * The lines of a table, whose columns are given by their places: `isbn`, `copies`, and the `notes`. A row with letters
+ * for its copies and without a book is a heading: the first row is skipped, unless its ISBN begins with digits; a later
+ * one ends the table, and `rest` has the rows from there on. `zeros` counts rows with 0 copies.
  */
 export function taken(rows, columns) {
   const width = widthOf(rows);

@@ -1,5 +1,5 @@
-// The text of an order list as a buyer writes it: every line that orders nothing is marked in its place, with what it
-// lacks. What the page itself changes can be undone by Ctrl+Z, as what is typed can.
+// The text of an order list as a buyer writes it: every line that orders nothing is marked in place, with what it
+// lacks. Ctrl+Z undoes what the page changed, like what was typed.
 
 import { element, found } from "../text/elements.js";
 import { shortened } from "../text/said.js";
@@ -12,26 +12,26 @@ const KEY = "onixdesk-list";
 
 const isEmpty = ({ text }) => !isLikeIsbn(text);
 
-/** Whether a key undoes, and no other field has anything to undo. */
+/** Whether a key means undo, and no other field has anything to undo. */
 function isUndo({ key, ctrlKey, metaKey, shiftKey, target }) {
   const isFree = target.id === "lines" || !target.matches("input, textarea") || target.value === "";
   return isFree && (ctrlKey || metaKey) && !shiftKey && key.toLowerCase() === "z";
 }
 
-/** How many marked lines are shown with a button each; there is a button for all the others. */
+/** How many marked lines get a button each; another button handles all others. */
 const MOST_SHOWN = 50;
 
-// How much of each, so that what a mail says of copies is seen.
+// How much of each is shown, enough to see what a mail says of copies.
 const MOST_SIGNS = 80;
 
 export class Editor {
   #field = found("lines");
   #changed;
   #lines = [];
-  // What the page itself has changed: the text `before` and `after`.
+  // The page's own changes: the text `before` and `after` each.
   #steps = [];
 
-  /** `changed` hears of each change. */
+  /** Calls `changed` at each change. */
   constructor(changed) {
     this.#changed = changed;
     this.#field.value = kept(KEY);
@@ -46,7 +46,7 @@ export class Editor {
     return this.#field.value;
   }
 
-  /** The lines of the text, as it is now. */
+  /** The lines of the present text. */
   get lines() {
     return this.#lines;
   }
@@ -55,13 +55,13 @@ export class Editor {
     return markedOf(this.#lines);
   }
 
-  /** Puts another text in place of this one, which Ctrl+Z brings back, and the caret at its place. */
+  /** Replaces the text, which Ctrl+Z undoes, and places the caret. */
   change(after, caret = this.#field.selectionStart) {
     this.#steps = [...this.#steps.slice(-50), { before: this.text, after }];
     this.#put(after, caret);
   }
 
-  /** Brings back what the page changed last, where nobody has written anything since. */
+  /** Undoes the page's last change, if nobody has typed since. */
   undo(event) {
     const { before, after } = this.#steps.at(-1) ?? {};
     if (!isUndo(event) || after !== this.text) return;
@@ -76,7 +76,7 @@ export class Editor {
     this.#read();
   }
 
-  /** Leads to a part of a line, from one place to another one, or to all of it. */
+  /** Selects a part of a line, or all of it. */
   goTo(line, start = 0, end = line.text.length) {
     const before = this.#lines.slice(0, line.number - 1).reduce((sum, { text }) => sum + text.length + 1, 0);
     this.#field.focus({ preventScroll: true });
@@ -92,13 +92,13 @@ export class Editor {
     this.#changed();
   }
 
-  /** Changes marked lines by a control at them. */
+  /** Changes marked lines by their controls. */
   #mend(text, number) {
     this.change(text);
     this.focusMarked(number);
   }
 
-  /** Leads to the marked line of a number or the next one: to its copies, or a button; without any, to the orders. */
+  /** Moves to the marked line of a number or the next one: to its copies, or a button; or else to the orders. */
   focusMarked(number = 0) {
     const at = this.marked.findIndex((line) => line.number >= number);
     const item = found("marked-lines").children[Math.max(at, 0)];
@@ -126,7 +126,7 @@ export class Editor {
     found("marked-lines").replaceChildren(...items, ...more);
   }
 
-  /** The number of each line, behind which a marked one has another colour. */
+  /** The numbers of lines, in another colour at marked ones. */
   #drawNumbers() {
     const className = { marked: "is-marked", struck: "is-struck" };
     const rows = this.#lines.map((line) => element("span", { class: className[line.kind] }, String(line.number)));
@@ -145,7 +145,7 @@ export class Editor {
     return element("li", {}, go, " ", quoted, " ", ...this.#copiesField(line), strike);
   }
 
-  /** A field for the copies of a marked line with one ISBN, by which it becomes a good one. */
+  /** A field for the copies of a marked line with one ISBN, which makes it a good one. */
   #copiesField({ isbn, number }) {
     if (isbn === undefined) return [];
     const field = element("input", { inputmode: "numeric", autocomplete: "off", placeholder: say("order.columns.copies") });

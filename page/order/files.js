@@ -1,10 +1,10 @@
-// Files that a buyer opens in place of pasting them.
+// Files that a buyer opens instead of pasting them.
 
 import { say } from "../text/wording.js";
 
 const MOST_BYTES = 1_000_000;
 
-/** The text of bytes, as spreadsheets and tills save it; `undefined` where they are none. */
+/** The text of bytes, as spreadsheets and tills save it; `undefined` if they are no text. */
 function textOf(bytes) {
   const [first, second] = bytes;
   if (first === 0xff && second === 0xfe) return new TextDecoder("utf-16le").decode(bytes);
@@ -16,7 +16,7 @@ function textOf(bytes) {
   }
 }
 
-/** The `text` of a file, with a line break as a text field has it, or what is `wrong` with it. */
+/** The `text` of a file, with line breaks as in a text field, or what is `wrong` with it. */
 export async function textOfFile(file) {
   if (file.size > MOST_BYTES) return { wrong: say("order.tooLarge", { name: file.name }) };
   const text = textOf(new Uint8Array(await file.arrayBuffer()));

@@ -15,7 +15,7 @@ const LONE = new RegExp(`^ *${isbnAs("isbn")} *$`, "i");
 // What may be meant as an ISBN: whole or mistyped, too long or too short, or shortened by a spreadsheet.
 const LIKE = /(?:\d[ -]?){8,}[\dX]|97[89][ -]?[\dA-Z-]{5,}|\d[.,]\d+E\+?\d+/i;
 const SHORTENED = /\d[.,]\d+E\+?\d+/i;
-// Beside an ISBN one whole number, and signs that are none of a sum or an amount.
+// Beside an ISBN, one whole number and no sign of a sum or an amount.
 const OTHER_FORM = /^(?:[^\p{L}\p{N}]*[^\p{L}\p{N}+$€£-])?(?:x *)?[1-9]\d{0,3}(?: *x)?[^\p{L}\p{N}]*$/iu;
 
 /** Whether a text is a number of copies. */
@@ -23,7 +23,7 @@ export function areCopies(text) {
   return new RegExp(`^${COPIES}$`).test(text);
 }
 
-/** The ISBN that a text is, and nothing else. */
+/** The ISBN, if a text is that and nothing else. */
 export function isbnIn(text) {
   const match = LONE.exec(plain(text));
   return match === null ? undefined : isbnOf(match.groups.isbn);
@@ -34,7 +34,7 @@ export function isLikeIsbn(text) {
   return isbnsIn(text).length > 0 || LIKE.test(plain(text));
 }
 
-/** Why a text with one ISBN in it is not that and copies. */
+/** Why a text with one ISBN in it is not an ISBN and copies. */
 function reasonBeside(body) {
   const without = body.replace(new RegExp(LABEL, "gi"), " ");
   const beside = without.replace(ANYWHERE, (written) => (isbnOf(written) === undefined ? written : " "));
@@ -43,7 +43,7 @@ function reasonBeside(body) {
   return /\p{L}/u.test(beside) ? "more" : "copies";
 }
 
-/** Why what stands before `@` and `#` is no ISBN and copies, as a `reason`, with its `isbn` where it has one alone. */
+/** Why the part before `@` and `#` is not an ISBN and copies, as a `reason`, with its `isbn` if it has just one. */
 function faultOf(body) {
   const lone = isbnIn(body);
   if (lone !== undefined) return { reason: "lone", isbn: lone };
@@ -56,7 +56,7 @@ function faultOf(body) {
   return { reason: isLikeIsbn(body) ? "broken" : "none" };
 }
 
-/** The number of copies of a body that is good, with the place where it stands. */
+/** The number of copies in a good body, and its place. */
 function copiesIn({ groups, indices }) {
   const name = ["copies", "before", "first"].find((each) => groups[each] !== undefined);
   const [start, end] = indices.groups[name];
@@ -64,9 +64,9 @@ function copiesIn({ groups, indices }) {
 }
 
 /**
- * What a line is, by its `kind`: `blank`, `struck` (behind `#`), `good`, with its `isbn` of thirteen digits, `copies`,
- * `series` and `note`, and from where to where its number stands; or `marked`, with the `reason`, and the `isbn` where
- * there is one alone. `bodyEnd` is where `@` or `#` begins.
+ * A line by its `kind`: `blank`; `struck` (behind `#`); `good`, with its `isbn` of thirteen digits, `copies`, `series`,
+ * `note`, and the place of its number; or `marked`, with the `reason`, and the `isbn` if there is just one. `bodyEnd`
+ * is where `@` or `#` begins.
  */
 export function readLine(text) {
   const signs = plain(text);

@@ -1,4 +1,4 @@
-// The view of an order list: its text, what the desk answers about each book of it, and the orders.
+// The view of an order list: its text, the desk's answers about each book, and the orders.
 
 import { money } from "../text/amounts.js";
 import { isAbandoned } from "../desk/questions.js";
@@ -21,21 +21,21 @@ import { download, linesToPaste, printOrder } from "./saving.js";
 import { TableForm } from "./table-form.js";
 import { rowsOf, struckBooks, withLines, withMore, withSeries } from "./text.js";
 
-// A list of more rows asks the desk more than the web server lets pass at once.
+// A list of more rows would ask the desk more than the web server lets pass at once.
 const MOST_ROWS = 1000;
 
-// How long a buyer may write on before the desk is asked, and answers are gathered before they are drawn.
+// How long the page waits for more typing before it asks, and gathers answers before it draws.
 const PAUSE = 400;
 const GATHERED = 200;
 
-// How long an order may leave the page after all of it was asked for once more.
+// How long an order may leave the page after all of it was asked again.
 const FRESH = 120_000;
 
 function tell(words) {
   found("list-status").textContent = words;
 }
 
-/** The view, over the settings and the reports on messages; `watch` is told when the desk is down and up. */
+/** The view, over the settings and the reports on messages; it tells `watch` when the desk goes down and up. */
 export class Order {
   #settings;
   #reports;
@@ -43,13 +43,13 @@ export class Order {
   #editor;
   #form;
   #rows;
-  // What the desk answered, by book and copies, and what feeds said of it.
+  // The desk's answers, by book and copies, and the titles from feeds.
   #answers = new Map();
   #titles = new Map();
-  // What a person has looked at: rows, and wholesalers whose messages are missing.
+  // What a person has confirmed: rows, and wholesalers whose messages are missing.
   #confirmed = new Set();
   #trusted = new Set();
-  // What was ordered of rows that the desk answered otherwise before they were saved.
+  // What rows ordered before the desk answered otherwise, until they are saved.
   #changes = new Map();
   #isFiltered = false;
   #isShown = false;
@@ -113,7 +113,7 @@ export class Order {
     found("lines").focus({ preventScroll: true });
   }
 
-  /** What is not answered yet is asked for once the view is shown again. */
+  /** Rows without an answer are asked once the view is shown again. */
   leave() {
     this.#isShown = false;
     clearTimeout(this.#pause);
@@ -121,19 +121,19 @@ export class Order {
     this.#watch.up();
   }
 
-  /** What a scanner has read is a line of its own, or one copy more. */
+  /** A scan is a line of its own, or one copy more. */
   scanned(code) {
     this.take(code);
     tell(say("order.scanned", { code }));
   }
 
-  /** Puts a book on the list; the caret stands on a line of its own behind it. */
+  /** Puts a book on the list, with the caret on a new line behind it. */
   take(isbn, copies) {
     const text = withMore(this.#editor.text, isbn, copies);
     this.#editor.change(text, text.length);
   }
 
-  /** Asks for the columns of a text that is a table; gives whether it is one. */
+  /** If a text is a table, asks for its columns; returns whether it is one. */
   #asTable(text) {
     const lines = text.replace(/\r\n?/g, "\n");
     if (!isTable(lines)) return false;
@@ -144,13 +144,13 @@ export class Order {
   async #open(file) {
     if (file === undefined) return;
     const { text, wrong } = await textOfFile(file);
-    // The same file can be opened once more.
+    // The same file can be opened again.
     found("list-file").value = "";
     tell(wrong ?? "");
     if (wrong === undefined && !this.#asTable(text)) this.#take(text.split("\n"));
   }
 
-  /** Lines behind those that are there. */
+  /** Adds lines behind the present ones. */
   #take(lines) {
     this.#editor.change(withLines(this.#editor.text, lines));
     this.#editor.focusMarked();
@@ -168,7 +168,7 @@ export class Order {
     this.#drawSoon();
   }
 
-  /** Why prices of a series may be old, in words; empty where nothing says so. */
+  /** Why prices of a series may be old, in words; empty if nothing says so. */
   #doubtOf(series) {
     return this.#reports.reasonsOf(series).join("; ");
   }
@@ -224,12 +224,12 @@ export class Order {
     this.#draw();
   }
 
-  /** What is missing of each wholesaler that something is ordered from, to be confirmed once. */
+  /** What is missing of each wholesaler in the order, to be confirmed once. */
   #drawDoubts(all) {
     const names = [...new Set(all.flatMap(({ state: { offer } }) => offer?.series ?? []))];
     const doubtful = names.filter((name) => this.#isDoubtful(name));
     const told = doubtful.map((name) => `${name} ${this.#doubtOf(name)}`).join("\n");
-    // What is drawn anew loses the focus.
+    // Redrawn elements lose the focus.
     if (told === this.#doubtsTold) return;
     this.#doubtsTold = told;
     const notes = doubtful.map((name) => {
@@ -245,7 +245,7 @@ export class Order {
     found("list-doubts").replaceChildren(...notes);
   }
 
-  /** The bar that stays: how many books, their sum, how many to check, or in no order, and how far the list is looked up. */
+  /** The bar that stays: books, sum, how many to check or in no order, and progress. */
   #drawBar(all, toCheck) {
     const ordered = all.filter(({ state }) => state.offer !== undefined);
     const waiting = all.filter(({ answer }) => answer === undefined).length;
@@ -267,7 +267,7 @@ export class Order {
     this.#goOn();
   }
 
-  /** From what is confirmed to the next: behind the last, nothing is told of it any longer. */
+  /** Moves from a confirmed need to the next one; after the last, nothing more is announced. */
   #goOn() {
     this.#draw();
     const next = this.#nextToCheck();
@@ -275,12 +275,12 @@ export class Order {
     next.focus({ preventScroll: true });
   }
 
-  /** What is to be confirmed next, or else the button of the orders. */
+  /** The next need to confirm, or else the button of the orders. */
   #nextToCheck() {
     return document.querySelector("#list-doubts .confirm, #list .confirm") ?? found("get-orders");
   }
 
-  /** Does what asks the desk; what was asked before ends. */
+  /** Runs something that asks the desk; earlier questions end. */
   async #ask(act) {
     this.#asking.abort();
     this.#asking = new AbortController();
@@ -295,7 +295,7 @@ export class Order {
     }
   }
 
-  /** Asks for the rows that have no answer yet, and then for titles: an order does not wait for those. */
+  /** Asks for rows without an answer, and then for titles: an order does not wait for those. */
   #lookUp() {
     const rows = rowsOf(this.#editor.lines);
     if (rows.length > MOST_ROWS) {
@@ -322,7 +322,7 @@ export class Order {
     });
   }
 
-  /** Why no order can leave the page yet, with where to go; `undefined` where nothing speaks against it. */
+  /** Why no order can leave the page yet, and where to go; `undefined` if nothing prevents it. */
   #obstacle(all) {
     if (this.#form.isShown) return { words: say("order.blocked.table"), place: found("isbn-column") };
     if (this.#editor.marked.length > 0) {
@@ -340,7 +340,7 @@ export class Order {
     return undefined;
   }
 
-  /** The rows that may leave the page now, asked for once more; none where something speaks against it. */
+  /** The rows that may leave the page now, asked once more; none if something prevents it. */
   async #checked() {
     const all = this.#all();
     const obstacle = this.#obstacle(all);
@@ -365,8 +365,8 @@ export class Order {
   }
 
   /**
-   * Asks for rows once more: how many the desk answers otherwise now, which it is asked for anew, a `refusal` that came in
-   * place of an answer, and whether all was asked.
+   * Asks for rows once more: how many answers changed, which are asked anew; a `refusal` that came instead of an
+   * answer; and whether all was asked.
    */
   async #askAgain(rows) {
     let [changed, done] = [0, 0];
@@ -385,7 +385,7 @@ export class Order {
     return { changed, refusal, isDone };
   }
 
-  /** Does what saves, unless something is being saved already. */
+  /** Saves, unless something is being saved already. */
   async #saving(act) {
     if (this.#isSaving) return;
     this.#isSaving = true;
@@ -396,7 +396,7 @@ export class Order {
     }
   }
 
-  /** Asks for each book once more, and shows the orders where nothing has changed. */
+  /** Asks for each book once more, and shows the orders if nothing has changed. */
   #getOrders() {
     return this.#saving(async () => {
       const rows = await this.#checked();

@@ -10,7 +10,7 @@ import { sumsOf } from "./answers.js";
 
 const WAYS = ["csv", "copy", "print"];
 
-// What became of the order of each wholesaler since the list changed; the tab keeps it, as it does the list.
+// How each wholesaler's order left the page since the list changed; the tab keeps that, like the list.
 const KEY = "onixdesk-saved";
 const saved = new Map(JSON.parse(kept(KEY) || "[]"));
 let isReferenceUsed = false;
@@ -21,7 +21,7 @@ export function forgetSaved() {
   keep(KEY, "");
 }
 
-/** A sum, and, where desk.json says from which one on the carriage is free, that. */
+/** A sum, and the sum from which carriage is free, if desk.json has it. */
 function sumInWords(series, amount, { settings }) {
   const { freeFrom = "" } = settings.series.find(({ name }) => name === series) ?? {};
   const sum = money(amount, settings.currency);
@@ -30,7 +30,7 @@ function sumInWords(series, amount, { settings }) {
   return say(compareAmounts(amount, freeFrom) < 0 ? "order.carriageFrom" : "order.carriageFree", { sum, least });
 }
 
-/** The buttons by which the order of a wholesaler leaves the page, and what became of it. */
+/** The buttons by which a wholesaler's order leaves the page, and how it did. */
 function waysCell(series, { settings, save }) {
   const name = wholesalerOf(settings, series);
   const status = element("span", { role: "status", tabindex: "-1", "data-saved": series }, saved.get(series) ?? "");
@@ -60,7 +60,7 @@ export function showOrders(rows, context) {
   found("orders").hidden = false;
 }
 
-/** The next orders have another reference than those that have left the page. */
+/** The next orders get another reference than those that have left the page. */
 export function hideOrders() {
   if (isReferenceUsed) found("order-reference").value = "";
   isReferenceUsed = false;
@@ -69,7 +69,7 @@ export function hideOrders() {
   found("saved").replaceChildren();
 }
 
-/** Says at a wholesaler what became of its order: the focus goes there, so that a second Enter saves nothing. */
+/** Says how a wholesaler's order left the page, and takes the focus, so that a second Enter saves nothing. */
 export function tellSaved(series, words) {
   const status = document.querySelector(`[data-saved="${series}"]`);
   status.textContent = say("order.savedAt", { words, time: timeInWords(new Date()) });
@@ -79,7 +79,7 @@ export function tellSaved(series, words) {
   keep(KEY, JSON.stringify([...saved]));
 }
 
-/** Lists what is in no order: rows that nobody offers or no rule takes, and lines with an ISBN that were struck out. */
+/** Lists what is in no order: rows that nobody offers or no rule takes, and struck lines with an ISBN. */
 export function showRest(rows, struck) {
   const texts = [
     ...rows.map(({ row }) => `${row.isbn} ${row.copies}`),

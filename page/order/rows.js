@@ -20,7 +20,7 @@ const columns = () => COLUMNS.map((name) => ({
   className: AMOUNTS.includes(name) ? `${name} amount` : CLASSES[name] ?? name,
 }));
 
-/** The title that a feed said, or only the ISBN, with a link to the article. */
+/** The title from a feed, or only the ISBN, with a link to the article. */
 function titleCell(row, answer, { settings, titles }) {
   const { isbn, copies, lines } = row;
   const said = titlesOfOffers(titles.get(isbn) ?? [], answer?.offers ?? []);
@@ -30,7 +30,7 @@ function titleCell(row, answer, { settings, titles }) {
   return [...title, element("small", {}, link, " · ", sayCount("order.ofLines", lines.length, { lines: names }))];
 }
 
-/** The copies: of one line a button that leads to their number in the text; of several, no line has the sum. */
+/** The copies: for one line a button that leads to their number in the text; for several no line has the sum. */
 function copiesCell({ isbn, copies, lines }, { goTo }) {
   if (lines.length > 1) return [inDigits(copies)];
   const button = element("button", { type: "button", class: "number" }, inDigits(copies));
@@ -44,7 +44,7 @@ function offerInWords(offer, { settings }) {
   return say("order.offer", { wholesaler: wholesalerOf(settings, offer.series), price, availability: availabilityOf(offer) });
 }
 
-/** The field by which a hand chooses a wholesaler, which then stands behind `@` in the text. */
+/** The field that chooses a wholesaler by hand, written behind `@` into the text. */
 function wholesalerCell(row, answer, state, context) {
   const { settings, choose } = context;
   if (answer === undefined) return ["…"];
@@ -66,7 +66,7 @@ function wholesalerCell(row, answer, state, context) {
   return [field];
 }
 
-/** That nobody offers a book, or, where messages of a wholesaler have not come, that it may. */
+/** That nobody offers a book, or that a wholesaler may whose messages are missing. */
 function noOffersInWords({ settings, doubtful }) {
   const names = doubtful.map((name) => wholesalerOf(settings, name));
   if (names.length === 0) return say("order.needs.noOffers");
@@ -114,7 +114,7 @@ function needPart(row, answer, state, context) {
   return [words];
 }
 
-/** What another offer of the same answer saves, and the rule that preferred the one that is ordered. */
+/** What another offer of the same answer saves, and the rule that preferred the ordered one. */
 function savingPart(row, answer, { offer }, { settings }) {
   const saving = savingOf(answer, offer, row.copies);
   if (saving === undefined) return [];
@@ -129,7 +129,7 @@ function savingPart(row, answer, { offer }, { settings }) {
   return [element("span", {}, `${words}; ${why}`)];
 }
 
-/** What is to be said of a row, each part behind the other. */
+/** The remarks on a row, one after the other. */
 function noteCell(row, answer, state, context) {
   if (answer === undefined) return [];
   const { settings } = context;
@@ -159,13 +159,13 @@ function cellsOf(row, answer, state, context) {
   ];
 }
 
-/** What a row is drawn of: it is drawn anew where one of these is another one. */
+/** What a row is drawn from: if one of these changes, it is drawn again. */
 function drawnOf({ row, answer, state }, { titles, doubtful }) {
   const lines = row.lines.map((line) => line.number).join();
   return [lines, row.copies, row.note, answer, state.need, state.offer, titles.get(row.isbn), doubtful];
 }
 
-/** Puts a row in the place of another one, with the focus at the same field or button. */
+/** Replaces a row, with the focus at the same field or button. */
 function replaceRow(old, made) {
   const fields = (place) => [...place.querySelectorAll("a, button, select")];
   const at = fields(old).indexOf(document.activeElement);
@@ -173,14 +173,14 @@ function replaceRow(old, made) {
   if (at >= 0) fields(made)[at]?.focus({ preventScroll: true });
 }
 
-// How many rows are drawn before a key is heard.
+// How many rows are drawn before keys are handled.
 const MOST_AT_ONCE = 60;
 
-/** The rows of the table; one stays as long as nothing of it has changed. */
+/** The rows of the table; an unchanged one stays. */
 export class Rows {
   #context;
   #columns = columns();
-  // For each row of the list its row of the table (`made`), and what that was drawn of.
+  // For each row of the list its row in the table (`made`), and what that was drawn from.
   #drawn = new Map();
 
   /**
@@ -192,7 +192,7 @@ export class Rows {
     found("list").replaceChildren(table("list-heading", this.#columns, []));
   }
 
-  /** Draws rows, each with its `row`, `answer` and `state`, some at a time; gives whether all are drawn. */
+  /** Draws rows, each with its `row`, `answer` and `state`, some at a time; returns whether all are drawn. */
   draw(shown, doubtful) {
     if (doubtful.join() !== this.#context.doubtful.join()) this.#context.doubtful = doubtful;
     let left = MOST_AT_ONCE;

@@ -1,4 +1,4 @@
-// How an order leaves the page: as a file, on the clipboard, on paper. Nothing of it is sent anywhere.
+// How an order leaves the page: as a file, on the clipboard, on paper. The page sends nothing.
 
 import { money, times } from "../text/amounts.js";
 import { inWords, stamp, today } from "../text/days.js";
@@ -12,12 +12,12 @@ import { sumsOf } from "./answers.js";
 const ON_PAPER = "order-on-paper";
 const AMOUNTS = ["copies", "price", "sum"];
 
-// As long as a browser may take to begin with a file.
+// How long a browser may take to begin with a file.
 const KEPT = 60_000;
 
 const accountOf = (settings, series) => settings.series.find(({ name }) => name === series)?.account ?? "";
 
-/** The cells of a row by their columns, with amounts as the desk writes them, and the order's reference (`order`). */
+/** The cells of a row by column, with amounts as the desk writes them, and the order's reference (`order`). */
 function cellsOf({ row, state: { offer } }, { settings, order }) {
   return {
     isbn: row.isbn,
@@ -42,7 +42,7 @@ export function fileText(rows, series, context) {
   return textIn(form, heads, rows.map((each) => cellsOf(each, context)));
 }
 
-/** Hands the browser the file of a series; gives its name, which no other order has. */
+/** Gives the browser the file of a series; returns its name, which no other order has. */
 export function download(rows, series, context) {
   const name = say("order.fileName", { time: stamp(), series });
   const url = URL.createObjectURL(new Blob([fileText(rows, series, context)], { type: "text/csv" }));
@@ -54,10 +54,10 @@ export function download(rows, series, context) {
   return name;
 }
 
-/** An order as lines of ISBN and copies, as a list has them. */
+/** An order as lines of ISBN and copies, like a list. */
 export const linesToPaste = (rows) => rows.map(({ row }) => `${row.isbn}\t${row.copies}\n`).join("");
 
-/** What stands once above the order of a wholesaler: to whom and from whom it goes, and what its prices are. */
+/** The head of a wholesaler's order: to whom and from whom it goes, and what its prices are. */
 function paperHead(series, { settings }) {
   const { shop, address, currency, type } = settings;
   const account = accountOf(settings, series);
@@ -69,7 +69,7 @@ function paperHead(series, { settings }) {
   return [...lines, prices].map((line) => element("p", {}, line));
 }
 
-/** The row of the total: the copies and the sum, each in its column. */
+/** The row of the total: copies and sum, each in its column. */
 function totalRow(columns, { copies, amount }, { settings }) {
   const cells = { copies: inDigits(copies), sum: money(amount, settings.currency) };
   const texts = columns.map((name) => cells[name] ?? "");
@@ -77,7 +77,7 @@ function totalRow(columns, { copies, amount }, { settings }) {
   return { cells: texts.map((text) => [text]), className: "total" };
 }
 
-/** Prints the order of a wholesaler: what its form has, and nothing of another one. */
+/** Prints a wholesaler's order, with the columns of its form, and nothing of another one. */
 export function printOrder(rows, series, context) {
   const form = formOf(context.settings, series);
   const columns = form.columns.filter((name) => !ABOVE.includes(name));

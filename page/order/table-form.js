@@ -1,5 +1,5 @@
 // The form by which a buyer turns a table into lines: it shows the table, and asks which column has the ISBN and which
-// the copies. Nothing of it is filled in.
+// the copies. It fills in nothing.
 
 import { element, found } from "../text/elements.js";
 import { shortened } from "../text/said.js";
@@ -7,10 +7,10 @@ import { inDigits, say, sayCount } from "../text/wording.js";
 import { parse, separatorIn, taken, widthOf } from "./csv-table.js";
 import { goodOf, linesOf, markedOf } from "./text.js";
 
-// As many rows as tell which column is which.
+// Enough rows to recognize the columns.
 const SHOWN = 10;
 
-/** The columns of rows in the order of their numbers, with the first cells of each, behind an empty choice. */
+/** The columns in order, with the first cells of each, after an empty choice. */
 function fillColumns(field, rows, width) {
   const options = Array.from({ length: width }, (_, at) => {
     const cells = rows.slice(0, 2).map((row) => shortened(row.cells[at])).filter((cell) => cell !== "");
@@ -26,7 +26,7 @@ export class TableForm {
   #take;
   #asText;
 
-  /** `take` gets the lines that a table becomes; `asText` the text, where the buyer says that it is none. */
+  /** `take` gets the lines of a table; `asText` gets the text, if the buyer says that it is no table. */
   constructor({ take, asText }) {
     this.#take = take;
     this.#asText = asText;
@@ -85,7 +85,7 @@ export class TableForm {
     this.#count();
   }
 
-  /** What the table becomes by the columns that are named; `undefined` before both are. */
+  /** The lines of the table, by the named columns; `undefined` until both are named. */
   #taken() {
     const [isbn, copies] = ["isbn-column", "copies-column"].map((id) => found(id).value);
     if (isbn === "" || copies === "" || isbn === copies) return undefined;

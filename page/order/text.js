@@ -1,9 +1,9 @@
-// The text of an order list: its lines, the rows that they are, and what the page itself changes in it.
+// The text of an order list: its lines, its rows, and the page's own changes.
 
 import { withoutAddOn } from "../text/isbn.js";
 import { isLikeIsbn, MOST_COPIES, readLine } from "./line.js";
 
-/** The lines of a text as `readLine` has them, each with its `text` and its `number`, from 1. */
+/** The lines of a text as `readLine` has them, each with its `text` and `number`, from 1. */
 export function linesOf(text) {
   return text.split("\n").map((line, at) => ({ ...readLine(line), text: line, number: at + 1 }));
 }
@@ -13,12 +13,12 @@ const ofKind = (kind) => (lines) => lines.filter((line) => line.kind === kind);
 export const goodOf = ofKind("good");
 export const markedOf = ofKind("marked");
 
-/** The struck lines that have something like an ISBN: they are in no order. */
+/** The struck lines with something like an ISBN: they are in no order. */
 export const struckBooks = (lines) => ofKind("struck")(lines).filter(({ text }) => isLikeIsbn(text));
 
 /**
- * The rows of good lines: one for each ISBN and wholesaler, in the order of the text, with its `key`, `isbn`, `series`,
- * the sum of its `copies`, its `lines` and their `note`.
+ * The rows of good lines, one for each ISBN and wholesaler, in the order of the text: `key`, `isbn`, `series`, the sum
+ * of its `copies`, its `lines` and their `note`.
  */
 export function rowsOf(lines) {
   const rows = new Map();
@@ -34,17 +34,17 @@ export function rowsOf(lines) {
   return [...rows.values()];
 }
 
-/** A text with more lines behind its own. */
+/** The text with more lines at its end. */
 export function withLines(text, lines) {
   return `${[text.trimEnd(), ...lines].filter((line) => line !== "").join("\n")}\n`;
 }
 
-/** A text with other texts in place of some of its lines, as `change` gives them. */
+/** The text with some lines replaced, as `change` gives them. */
 function changed(text, change) {
   return linesOf(text).map((line) => change(line)).join("\n");
 }
 
-/** A text with copies more of what was scanned or added: in the last line of that ISBN, or in a line of its own. */
+/** The text with more copies of a scanned or added book: in the last line of that ISBN, or in a new line. */
 export function withMore(text, code, copies = 1) {
   const isbn = withoutAddOn(code);
   const line = goodOf(linesOf(text)).findLast((each) => each.isbn === isbn);
@@ -54,12 +54,12 @@ export function withMore(text, code, copies = 1) {
   return withLines(changed(text, ({ number, text: old }) => (number === line.number ? more : old)), []);
 }
 
-/** A text in which the lines of those numbers are struck out: they stay, behind `#`. */
+/** The text with the lines of those numbers struck out: they stay, behind `#`. */
 export function struck(text, numbers) {
   return changed(text, ({ number, text: old }) => (numbers.includes(number) ? `# ${old}` : old));
 }
 
-/** A marked line of one ISBN as a good one, of so many copies; the words beside that ISBN stay behind `#`. */
+/** A marked line of one ISBN as a good one with so many copies; the words beside the ISBN stay behind `#`. */
 function goodLine({ text, bodyEnd, reason, isbn }, copies) {
   const [body, rest] = [text.slice(0, bodyEnd), text.slice(bodyEnd)];
   if (reason === "lone") return `${body} ${copies}${rest}`;
@@ -68,17 +68,17 @@ function goodLine({ text, bodyEnd, reason, isbn }, copies) {
   return [isbn, copies, rest.trim(), sign, words].filter((part) => part !== "").join(" ");
 }
 
-/** A text whose marked line of that number, which has one ISBN, is of so many copies. */
+/** The text with so many copies in the marked line of that number, which has one ISBN. */
 export function withCopies(text, number, copies) {
   return changed(text, (line) => (line.number === number ? goodLine(line, copies) : line.text));
 }
 
-/** A text whose lines of an ISBN alone are of one copy. */
+/** The text with one copy in each line that is an ISBN alone. */
 export function withOneCopy(text) {
   return changed(text, (line) => (line.reason === "lone" ? goodLine(line, 1) : line.text));
 }
 
-/** A text in which the wholesaler of a row is that `series`, or, with `undefined`, the one that the shop's rules take. */
+/** The text with `series` as the wholesaler of a row, or, if `undefined`, the one that the shop's rules take. */
 export function withSeries(text, { lines }, series) {
   const numbers = lines.map(({ number }) => number);
   return changed(text, ({ number, text: old, bodyEnd, note }) => {

@@ -1,5 +1,5 @@
-// Addresses: of what stands beside the page, and the part behind `#`, which is the name of a view, and
-// behind a `?` what is asked there.
+// Addresses: of files beside the page, and the part behind `#`: the name of a view, and after a `?` what is asked
+// there.
 
 const VIEWS = ["article", "order", "missing"];
 
@@ -7,8 +7,8 @@ const VIEWS = ["article", "order", "missing"];
 export const ASKED = ["isbn", "day", "quantity", "country", "currency", "type"];
 
 /**
- * The view and the texts by name of an address. An unknown view is the first one; an unknown name, as a
- * mail or another program may add one, is passed over.
+ * The view and the texts of an address, by name. An unknown view is the first one; an unknown name, as a mail or
+ * another program may add one, is ignored.
  */
 export function readAddress(hash) {
   const [name, query = ""] = hash.replace(/^#/, "").split(/\?(.*)/s);
@@ -19,7 +19,7 @@ export function readAddress(hash) {
   };
 }
 
-/** The address of a view with what is asked there, in one order. */
+/** The address of a view and a question, in one order. */
 export function addressOf(view, given) {
   const names = ASKED.filter((name) => given[name] !== undefined);
   return `#${view}?${new URLSearchParams(names.map((name) => [name, given[name]]))}`;

@@ -1,9 +1,9 @@
-// Amounts of the desk, texts such as 11.500, in the page's language. They never become binary numbers:
-// Intl takes the text as it is, and sums are of whole thousandths.
+// Amounts of the desk, texts such as 11.500, in the page's language. They never become binary numbers: Intl takes the
+// text, and sums are in whole thousandths.
 
 import { formatter } from "./wording.js";
 
-// How many decimals a currency has, which takes long to ask for.
+// How many decimals a currency has; asking takes long.
 const decimals = new Map();
 
 function usualDecimals(currency) {
@@ -14,7 +14,7 @@ function usualDecimals(currency) {
   return decimals.get(currency);
 }
 
-/** As many decimals as the currency has, and more where the amount needs them. */
+/** As many decimals as the currency has, or more if the amount needs them. */
 function decimalsOf(amount, currency) {
   const needed = (amount.split(".")[1] ?? "").replace(/0+$/, "").length;
   return Math.max(usualDecimals(currency), needed);
@@ -51,7 +51,7 @@ function amountOf(count) {
   return `${count < 0n ? "-" : ""}${digits.slice(0, -3)}.${digits.slice(-3)}`;
 }
 
-/** What so many copies at an amount cost, exactly. */
+/** What so many copies cost, exactly. */
 export function times(amount, copies) {
   return amountOf(thousandths(amount) * BigInt(copies));
 }
@@ -61,17 +61,17 @@ export function sumOf(amounts) {
   return amountOf(amounts.reduce((sum, amount) => sum + thousandths(amount), 0n));
 }
 
-/** By how much one amount is more than another, which may be below nothing. */
+/** By how much one amount exceeds another; it may be negative. */
 export function difference(one, other) {
   return amountOf(thousandths(one) - thousandths(other));
 }
 
-/** Whether an amount is nothing at all. */
+/** Whether an amount is zero. */
 export function isNothing(amount) {
   return thousandths(amount) === 0n;
 }
 
-/** Orders amounts, the least first, and `null`, which is no price, last. */
+/** Sorts amounts, the least first, and `null`, no price, last. */
 export function compareAmounts(one, other) {
   if (one === null || other === null) return (one === null) - (other === null);
   const [first, second] = [thousandths(one), thousandths(other)];

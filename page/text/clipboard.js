@@ -1,9 +1,9 @@
-// What a buyer takes to another program.
+// Copies text for other programs.
 
 import { element } from "./elements.js";
 import { say } from "./wording.js";
 
-/** Copies a text; where the browser does not let the page, shows it in a place, and gives false. */
+/** Copies a text; if the browser does not allow it, shows the text, and returns false. */
 export async function copyText(text, place) {
   place.replaceChildren();
   try {

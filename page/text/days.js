@@ -1,4 +1,4 @@
-// Days of the calendar, written YYYY-MM-DD, which is also how a field for a day has them.
+// Days of the calendar, written YYYY-MM-DD, as a field for a day has them too.
 
 import { formatter, say } from "./wording.js";
 
@@ -17,7 +17,7 @@ function formatted(day, parts) {
   return formatter(Intl.DateTimeFormat, { ...parts, timeZone: "UTC" }).format(instant(day));
 }
 
-/** Whether a text is a day that exists, from the year 1 to 9999. */
+/** Whether a text is an existing day, from the year 1 to 9999. */
 export function isDay(text) {
   if (!/^\d{4}-\d\d-\d\d$/.test(text) || text < FIRST) return false;
   const found = instant(text);
@@ -26,7 +26,7 @@ export function isDay(text) {
 
 const numberOf = (day) => instant(day).getTime() / MILLISECONDS;
 
-/** The day so many days later; before the first and after the last day, that one. */
+/** The day so many days later; before the first or after the last day, that one. */
 export function plusDays(day, count) {
   const within = Math.min(Math.max(numberOf(day) + count, numberOf(FIRST)), numberOf(LAST));
   return new Date(within * MILLISECONDS).toISOString().slice(0, 10);
@@ -39,7 +39,7 @@ export function today() {
   return [String(now.getFullYear()).padStart(4, "0"), ...parts].join("-");
 }
 
-/** Now, by the same, for the name of a file, such as 2026-11-30-184205. */
+/** Now, by the same, for a file name, such as 2026-11-30-184205. */
 export function stamp() {
   return `${today()}-${new Date().toTimeString().slice(0, 8).replaceAll(":", "")}`;
 }
@@ -49,7 +49,7 @@ export function toDesk(day) {
   return day.replaceAll("-", "");
 }
 
-/** A day that the desk wrote. */
+/** A day from the desk. */
 export function fromDesk(text) {
   return `${text.slice(0, 4)}-${text.slice(4, 6)}-${text.slice(6)}`;
 }
@@ -69,7 +69,7 @@ export function lengthOf({ from, until }) {
   return numberOf(until) - numberOf(from) + 1;
 }
 
-/** A time in seconds since 1970, in words: today's by the clock, another one by its day. */
+/** A time in seconds since 1970, in words: today's as a clock time, another one as a day. */
 export function momentInWords(seconds) {
   const time = new Date(seconds * 1000);
   const dayOf = formatter(Intl.DateTimeFormat, { dateStyle: "long" });

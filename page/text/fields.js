@@ -7,7 +7,7 @@ import { say, sayCount } from "./wording.js";
 const value = (text) => ({ value: text });
 const problem = (words) => ({ problem: words });
 
-/** The one ISBN of a text, in whatever stands around it. Nobody guesses which digit of a wrong one is wrong. */
+/** The one ISBN in a text, whatever stands around it. Nothing guesses which digit of a wrong one is wrong. */
 function readIsbn(text) {
   const found = isbnsIn(text);
   if (found.length === 1) return value(found[0]);
@@ -18,13 +18,13 @@ function readIsbn(text) {
   return problem(say(isGoods ? "wrong.isbnGoods" : "wrong.isbnCheck"));
 }
 
-/** A reader of codes: the text in capitals, where it is as the grammar says. */
+/** A reader of codes: the text in capitals, if the grammar allows it. */
 const codeReader = (grammar, wrong) => (text) => {
   const code = text.trim().toUpperCase();
   return grammar.test(code) ? value(code) : problem(say(wrong));
 };
 
-/** A country; one that has another code in ONIX, as UK has GB, is told, since the desk would know no price there. */
+/** A country. One with another code in ONIX, such as UK for GB, is a problem: the desk would know no price there. */
 function readCountry(text) {
   const read = codeReader(/^[A-Z]{2}$/, "wrong.country")(text);
   const right = read.problem === undefined ? new Intl.Locale(`und-${read.value}`).region : undefined;
@@ -37,7 +37,7 @@ function readQuantity(text) {
   return isQuantity ? value(String(Number(digits))) : problem(say("wrong.quantity"));
 }
 
-/** What the fields are called here, in an address and in the desk's queries, with their readers. */
+/** The names of the fields here, in an address and in the desk's queries, with their readers. */
 const READERS = {
   isbn: readIsbn,
   day: (text) => (isDay(text) ? value(text) : problem(say("wrong.day"))),
@@ -47,7 +47,7 @@ const READERS = {
   quantity: readQuantity,
 };
 
-/** Reads texts by name; gives the `values` of those that are right, and the `problems` of the others. */
+/** Reads texts by name; returns the `values` of right ones, and the `problems` of the others. */
 export function readAll(textsByName) {
   const found = { values: {}, problems: {} };
   for (const [name, text] of Object.entries(textsByName)) {

@@ -1,6 +1,6 @@
-// What a tab keeps over a reload, where the browser keeps anything.
+// What a tab keeps over a reload, if the browser keeps anything.
 
-/** The text that is kept under a name; the empty one where none is. */
+/** The text that is kept under a name; empty if there is none. */
 export function kept(name) {
   try {
     return sessionStorage.getItem(name) ?? "";
@@ -13,6 +13,6 @@ export function keep(name, text) {
   try {
     sessionStorage.setItem(name, text);
   } catch {
-    // It then ends with the page.
+    // Then it ends with the page.
   }
 }

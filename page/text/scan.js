@@ -1,17 +1,17 @@
-// Bar codes: a scanner types them as a keyboard does, wherever the focus is, with Enter, Tab or nothing behind.
+// Bar codes: a scanner types them like a keyboard, wherever the focus is, followed by Enter, Tab or nothing.
 
-// No hand types thirteen digits with less than this between each two of them, in milliseconds.
+// Nobody types thirteen digits with so little time between any two, in milliseconds.
 const GAP = 60;
 
-// How long a scanner may take for what stands behind the digits: an add-on, Enter or Tab.
+// How long a scanner may take for what follows the digits: an add-on, Enter or Tab.
 const BEHIND = 120;
 
-/** The digits that came one after the other as quickly as a scanner types them. */
+/** The digits that came as quickly as a scanner types them. */
 export class Burst {
   #digits = "";
   #last = -Infinity;
 
-  /** Whether a digit at a time begins a new burst. */
+  /** Whether a digit at this time begins a new burst. */
   begins(time) {
     return time - this.#last > GAP;
   }
@@ -21,12 +21,12 @@ export class Burst {
     this.#last = time;
   }
 
-  /** The digits of a whole bar code of a book, or of more than that; `undefined` where there are fewer. */
+  /** The digits of a whole bar code of a book, or more; `undefined` if there are fewer. */
   get code() {
     return this.#digits.length >= 13 ? this.#digits : undefined;
   }
 
-  /** Whether what comes at a time stands behind the digits. */
+  /** Whether what comes at this time belongs to the digits. */
   isBehind(time) {
     return time - this.#last <= BEHIND;
   }
@@ -39,7 +39,7 @@ export class Burst {
 
 const isField = (element) => element.matches("input, select, textarea");
 
-/** What takes what a scanner types into a field out of it again. */
+/** Removes from a field what a scanner typed into it. */
 function remembered(field) {
   if (!isField(field)) return () => {};
   const { value, selectionStart } = field;
@@ -52,15 +52,15 @@ function remembered(field) {
 }
 
 /**
- * Listens to the keys of the page for bar codes. `place` has `field`, where ISBNs are typed, `begin`, which is called at a
- * digit that no field waits for, and `scanned`, which gets the digits of a bar code.
+ * Listens to the page's keys for bar codes. `place` has `field`, where ISBNs are typed; `begin`, called at a digit that
+ * no field takes; and `scanned`, which gets the digits of a bar code.
  */
 export class Scanner {
   #place;
   #burst = new Burst();
   #restore = () => {};
   #timer;
-  // When the last digit came, and when that of the bar code came that was read last.
+  // When the last digit came, and the last digit of the last bar code.
   #digitAt = -Infinity;
   #scannedAt = -Infinity;
 
@@ -77,7 +77,7 @@ export class Scanner {
       event.preventDefault();
       this.#finish();
     } else if (isEnd && event.timeStamp - this.#scannedAt <= BEHIND) {
-      // The page had so much to do that it came behind the end of the wait for it.
+      // The page was so busy that it handled the key after the wait had ended.
       event.preventDefault();
     } else if (isEnd || event.key.length === 1) {
       clearTimeout(this.#timer);

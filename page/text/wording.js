@@ -1,4 +1,4 @@
-// The words of the page in the shop's language, filled in.
+// The page's words in the shop's language, filled in.
 
 import { texts as de } from "../words/de.js";
 import { texts as en } from "../words/en.js";
@@ -8,7 +8,7 @@ const SHIPPED = { de, en };
 const spoken = { language: "en-GB", texts: en };
 const formatters = new Map();
 
-/** From now on the page speaks a language such as de-AT, in English words where it has no others. */
+/** Sets the page's language, such as de-AT; English words if it has no others. */
 export function speak(language) {
   const [name] = language.split("-");
   spoken.language = language;
@@ -22,28 +22,28 @@ export function formatter(Kind, options = {}) {
   return formatters.get(key);
 }
 
-/** A number as the language writes it. */
+/** A number in the page's language. */
 export const inDigits = (number) => formatter(Intl.NumberFormat).format(number);
 
-/** The text or table of texts at a path such as `article.isbn`; throws where there is none. */
+/** The text or table of texts at a path such as `article.isbn`; throws if there is none. */
 function at(path) {
   const found = path.split(".").reduce((part, key) => part?.[key], spoken.texts);
   if (found === undefined) throw new Error(`there are no words for ${path}`);
   return found;
 }
 
-/** The parts of the text at a path, with what stands in braces taken from `values`, nodes too. */
+/** The parts of the text at a path, with names in braces replaced by `values`, nodes too. */
 export function sayParts(path, values = {}) {
   const parts = at(path).split(/\{(\w+)\}/);
   return parts.map((part, place) => (place % 2 === 0 ? part : (values[part] ?? `{${part}}`)));
 }
 
-/** The text at a path, with what stands in braces taken from `values`. */
+/** The text at a path, with names in braces replaced by `values`. */
 export function say(path, values = {}) {
   return sayParts(path, values).join("");
 }
 
-/** The text at a path in the form for a count, which fills in `count`. */
+/** The text at a path in the form for a count, which it fills in as `count`. */
 export function sayCount(path, count, values = {}) {
   const form = formatter(Intl.PluralRules).select(count);
   const chosen = Object.hasOwn(at(path), form) ? form : "other";
@@ -56,7 +56,7 @@ export function wordsOfCode(list, code) {
   return Object.hasOwn(words, code) ? words[code] : undefined;
 }
 
-/** A code with its words behind it. */
+/** A code, followed by its words. */
 export function codeInWords(list, code) {
   const words = wordsOfCode(list, code) ?? say("article.unknownCode");
   return say("article.codeInWords", { code, words });
@@ -67,7 +67,7 @@ export function codesOf(list) {
   return Object.keys(at(list)).sort();
 }
 
-/** Puts its text into each element below `root` that names one by `data-text`. */
+/** Puts the text into each element below `root` that names one by `data-text`. */
 export function labelAll(root) {
   for (const labelled of root.querySelectorAll("[data-text]")) {
     labelled.textContent = say(labelled.dataset.text);

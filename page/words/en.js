@@ -1,5 +1,5 @@
-// The words of the page in English. What stands in braces is filled in. Where a text depends on a number
-// it has a form for each word of Intl.PluralRules (`one`, `other`).
+// The words of the page in English. Names in braces are filled in. A text that depends on a number has a form for each
+// word of Intl.PluralRules (`one`, `other`).
 
 export const texts = {
   page: {

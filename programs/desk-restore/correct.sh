@@ -1,13 +1,13 @@
 #!/bin/sh
-# Corrects a desk in its text: a copy of the desk is written as text, sed edits that, and desk-restore puts a desk that
-# is made of it into the desk's place. For root.
+# Corrects a desk by its text: writes a copy as text, edits that by sed, and has desk-restore replace the desk by one
+# that is made from it. For root.
 #     correct.sh [--refuse MARK SERIES] EXPRESSION..
-# A file whose message is taken out is refused, or its inbox would post it again. Each EXPRESSION is one of sed. The
-# lines that change are shown, the first 20 of them, and desk-restore asks before anything is refused or stopped. Then
-# the correction is written down, with the next number of each series, and a new copy is taken.
-# Status 1 where no line changes, else that of a command that failed: then the desk is in place if a line says so.
+# Refuse the file whose message you take out, or its inbox posts it again. Each EXPRESSION is one of sed. It shows the
+# first 20 lines that change, and desk-restore asks before anything is refused or stopped. Then it writes down the
+# correction, with the next number of each series, and takes a new copy.
+# Status 1 if no line changes, else that of a command that failed: then the desk is in place if a line says so.
 set -eu
-# A terminal that hangs up ends nothing here.
+# A terminal that hangs up does not end it.
 trap '' HUP
 desk=/var/lib/onixdesk/shop.db
 
@@ -26,7 +26,7 @@ done
 work=$(mktemp -d /var/tmp/onixdesk.XXXXXX)
 trap 'rm -rf "$work"' EXIT
 cd "$work"
-# What a run that was killed began is ended first.
+# First finishes what a killed run began.
 [ ! -e "${desk%/*}/.${desk##*/}.work" ] || desk-restore --yes none || :
 desk-copy "$desk" before
 onixdesk --db "before/${desk##*/}" --existing export >before.csv

@@ -1,12 +1,12 @@
 #!/bin/bash
-# Fetches what a wholesaler's server has into the folder of its inbox, by rclone:
+# Fetches the files of a wholesaler's server into the folder of its inbox, by rclone:
 #     fetch.sh SERIES FOLDER
-# FROM, NAMES, VERB, CERTIFICATE and UNVERIFIED stand in the environment, rclone's settings in $CREDENTIALS_DIRECTORY/conf
-# (INBOX.md); $STATE_DIRECTORY is of this series alone. Status 0; 1 where not all that is there came.
+# FROM, NAMES, VERB, CERTIFICATE and UNVERIFIED are in the environment, rclone's settings in $CREDENTIALS_DIRECTORY/conf
+# (INBOX.md); $STATE_DIRECTORY belongs to this series alone. Status 0, or 1 if something did not come.
 set -uo pipefail
 export LC_ALL=C
 series=$1 folder=$2 state=$STATE_DIRECTORY
-# rclone writes into `new`; what lies in `whole` is whole, and the disk has it.
+# rclone writes into `new`; files in `whole` are complete and synced.
 new=$state/new whole=$state/whole
 # Settings of rclone come from its file alone.
 unset "${!RCLONE_@}"
@@ -14,10 +14,10 @@ unset "${!RCLONE_@}"
 
 say() { echo "<$1>journalctl -n 50 -u onixdesk-fetch@$series; $2" >&2; }
 
-# A text of others as one word, cut.
+# A text from others as one word, cut.
 quoted() { local text=${1//[^ -~]/?}; text=${text:0:300}; echo "${text@Q}"; }
 
-# Ends with a notice; after two hours of them with an error, which is mailed, and daily then.
+# Ends with a notice; after two hours of these with an error, which is mailed, and then daily.
 fail() {
     local now since told
     now=$(date +%s)
@@ -34,14 +34,14 @@ fail() {
 
 call() { rclone --config "$CREDENTIALS_DIRECTORY/conf" --retries 1 --low-level-retries 3 "$@" 2>>"$state/log"; }
 
-# What rclone has said, a line for each of its errors, and the last one as the reason.
+# Reports each of rclone's errors in a line, and the last line as the reason.
 fail_by_rclone() {
     local line
     while IFS= read -r line; do say 5 "$(quoted "${line:20}")"; done < <(grep ERROR "$state/log" | head -n 50)
     fail "$1; $(quoted "$(tail -n 1 "$state/log" | cut -c 21-)")"
 }
 
-# Refuses a server that nobody has verified, where the settings do not say that it is.
+# Refuses an unverified server, unless the settings allow it.
 check_server() {
     local shown remote=${FROM%%:*}
     [[ ${FROM:-} =~ ^[A-Za-z0-9_-]+: ]] || fail "FROM is REMOTE:FOLDER, with a REMOTE of $series.conf"
@@ -63,10 +63,10 @@ unverified() {
     [ "${UNVERIFIED:-}" = yes ] || fail "nobody verifies that server: TLS, or UNVERIFIED=yes in $series.env"
 }
 
-# How many seconds ago it was 30 days before that time.
+# The age, in seconds, of the moment 30 days before that time.
 age_of() { local now; now=$(date +%s); echo $((30 * 86400 + (now > $1 ? now - $1 : 0))); }
 
-# What is asked for: all at first and of a server without times, else what is not much older than the last success.
+# What to ask for: at first, or from a server without times, all; else what is not much older than the last success.
 choose() {
     local times
     asked=(--max-depth 1 --include "/${NAMES:-*}" --ignore-case --max-size 4G)
@@ -81,14 +81,14 @@ choose() {
     fi
 }
 
-# Fetches into `new`, which becomes `whole`. Only what the disk has is removed from the server, and only as it came.
+# Fetches into `new`, which becomes `whole`. It removes only files from the server that are synced here and unchanged.
 fetch() {
     local status
     rm -rf "$new"
     mkdir "$new"
     call copy "${asked[@]}" "$FROM" "$new"
     status=$?
-    # Killed, rclone leaves a half file; otherwise it removes those itself.
+    # If killed, rclone leaves a partial file; otherwise it removes that itself.
     [ $status -lt 128 ] || fail "rclone was killed"
     { sync --file-system "$new" && mv -T "$new" "$whole" && sync --file-system "$state"; } || fail "the disk takes nothing"
     call lsf --files-only "$whole" >"$state/came" || fail "the disk takes nothing"
@@ -99,7 +99,7 @@ fetch() {
     return $status
 }
 
-# Puts whole files into the folder, in the order of their times.
+# Moves complete files into the folder, in the order of their times.
 deliver() {
     local name
     [ -d "$whole" ] || return 0
@@ -111,12 +111,12 @@ deliver() {
     rm -r "$whole"
 }
 
-# Nothing that waits in the folder is overwritten: it gets a name with its digest.
+# Overwrites no file that waits in the folder: that one gets a name with its digest.
 put() {
     local to=$folder/$1 part=$folder/.fetched.part
     rm -rf -- "$part"
     cp --preserve=timestamps -- "$whole/$1" "$part" && sync -- "$part" || return
-    # Of a server without times the same bytes that come again say nothing.
+    # From a server without times, the same bytes that come again mean nothing.
     if [[ "${asked[*]-}" = *--ignore-times* ]] && cmp -s -- "$to" "$part"; then
         rm -- "$part" "$whole/$1"
         return

@@ -1,9 +1,9 @@
 #!/bin/sh
-# Mails what the units of onixdesk have said since the last time, where one of them has failed or has written an error.
+# Mails the journal of onixdesk's units since the last time, if one of them has failed or has written an error.
 #     mail.sh ADDRESS FOLDER [SETTINGS INBOX]
-# FOLDER keeps how far the journal was read, and is the user's of this script alone. It needs the right to read the
-# journal, and a mail server's sendmail. Each Monday INBOX, onixdesk-inbox, reports on each series of SETTINGS.
-# Status 0, also where there is nothing to mail; 1 where a mail could not be sent: then the next one has its lines too.
+# FOLDER keeps how far the journal was read; only this script's user has it. It needs the right to read the journal, and
+# a mail server's sendmail. Each Monday INBOX, onixdesk-inbox, reports on each series of SETTINGS.
+# Status 0, also with nothing to mail; 1 if a mail could not be sent: then the next one has its lines too.
 set -u
 address=$1 folder=$2 settings_folder=${3-/etc/onixdesk/inbox} inbox=${4-/usr/share/onixdesk/bin/onixdesk-inbox}
 PATH=$PATH:/usr/sbin
@@ -11,8 +11,8 @@ most=100
 
 complain() { echo "mail.sh: $*, so nobody is mailed" >&2; exit 1; }
 
-# What the journal has of the units from the last line that was read, which is left out here: where it is not of the
-# lines that are asked for, --after-cursor of systemd 252 leaves out the next one in its place.
+# The units' journal after the last line that was read, which is removed here: if that line is not among those that are
+# asked for, --after-cursor of systemd 252 leaves out the next one instead.
 journal() {
     if [ -e "$folder/read" ]; then
         set -- --cursor="$(sed -n 1p "$folder/read")" "$@"
@@ -27,15 +27,15 @@ journal() {
     cat "$folder/journal"
 }
 
-# Keeps how far the journal was read: a cursor and the line that it is of.
+# Remembers how far the journal was read: a cursor and its line.
 keep() {
     [ -s "$folder/lines" ] || return 0
     printf '%s\n' "$cursor" "$(tail -n 1 "$folder/lines")" >"$folder/read.new"
     mv "$folder/read.new" "$folder/read"
 }
 
-# The first lines of a file, and how many more there are. The programs cut what others say: only a line of nobody's
-# making is longer.
+# The first lines of a file, and how many more there are. The programs cut texts from others; only an unexpected line is
+# longer.
 some_of() {
     head -n $most "$1" | cut -c 1-2000
     count=$(wc -l <"$1")
@@ -51,7 +51,7 @@ send() {
     sendmail -i -t <"$folder/mail" || complain "sendmail ends with status $?"
 }
 
-# What each inbox says of itself.
+# The report of each inbox.
 week() {
     for settings in "$settings_folder"/*.conf; do
         series=$(basename "$settings" .conf)
@@ -61,7 +61,7 @@ week() {
     done
 }
 
-# Each Monday a mail comes in any case, so that a mail server that is silent shows.
+# Sends a mail each Monday in any case, so that a silent mail server is noticed.
 mail_week() {
     [ "$(date +%u)" = 1 ] && [ "$(cat "$folder/monday" 2>/dev/null)" != "$(date +%F)" ] || return 0
     week >"$folder/text"
@@ -71,7 +71,7 @@ mail_week() {
 
 [ -n "$address" ] || complain "no ADDRESS is set in /etc/onixdesk/mail.conf"
 command -v sendmail >/dev/null || complain "no sendmail is here (apt-get install default-mta)"
-# An error that is written between the two is mailed twice, and none is left out.
+# An error that is written between the two is mailed twice; none is lost.
 journal --show-cursor >"$folder/told" || complain "the journal cannot be read"
 cursor=$(sed -n 's/^-- cursor: //p' "$folder/told" | tail -n 1)
 sed '/^-- cursor: /d' "$folder/told" >"$folder/lines"

@@ -1,11 +1,11 @@
 #!/bin/bash
-# Runs a desk that is served, in place of this script, and hands on the lines that it writes but those of requests that
-# went well: for the journal, with the priority by which it knows them.
+# Becomes a desk that serves, and passes on its lines, except those of successful requests, with priorities for the
+# journal.
 #     serve.sh PROGRAM WORD..
-# 503 and whatever else begins with 5 is an error, a connection without a whole reply (`fault`) a warning.
-# Where RULES and STATE are set, the folder STATE gets rules.json first: what the file RULES has, for the page.
+# 503 and any other 5xx is an error; a connection without a complete reply (`fault`) is a warning.
+# If RULES and STATE are set, it first writes the rules of the file RULES to STATE/rules.json, for the page.
 if [ -n "${STATE-}" ] && ! "$(dirname "$0")/../../bin/write-rules" "$RULES" "$STATE"; then
-    # The page says that it cannot see the rules, and not older ones.
+    # The page then says that it cannot see the rules, instead of showing old ones.
     rm -f "$STATE/rules.json"
     echo "<3>serve.sh: $STATE/rules.json is not written" >&2
 fi

@@ -37,7 +37,7 @@ def arguments() -> argparse.Namespace:
 
 
 def try_one(name: str, program: Path, most: int | None) -> int:
-    """Kills a program, and gives how many states were wrong."""
+    """Kills a program; returns how many states were wrong."""
     with tempfile.TemporaryDirectory(prefix="onixdesk-") as folder:
         judged = killed(name, Room(program, Path(folder)), most)
     for line in judged.wrong:

@@ -24,7 +24,7 @@ TABLES = "stores::desks::tables_in_memory"
 FILES = "stores::desks::tables_in_files"
 CONTENTS = "contents::texts_of_contents"
 
-# The first goes on to the end of its list. The forty messages are applied over tables once, in files.
+# The first runs to the end of its list. The forty messages are applied over tables once, in files.
 SWEEPS = [
     Sweep(MEMORY, "steps"),
     Sweep(TABLES, "steps", ends=True),
@@ -40,7 +40,7 @@ SWEEPS = [
 ]
 
 
-# Each run to the end of its list. The longer ones by every so many requests, so that they end in minutes.
+# Each run to the end of its list. The longer tests refuse only every so many'th request, so that they end in minutes.
 LONGER = [
     Sweep(MEMORY, "questions"),
     Sweep(MEMORY, "exchanges"),

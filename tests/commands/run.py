@@ -62,7 +62,7 @@ def main() -> int:
     if why:
         print(f"tests/run: {why}", file=sys.stderr)
         return 2
-    # Those that run under -B would compile their modules at each start, a quarter of what it takes.
+    # With -B they would compile their modules at each start, a quarter of the time.
     compileall.compile_dir(ROOT / "programs", quiet=2)
     return tell_all("program", processes.tried(found, chosen.case, given.jobs))
 

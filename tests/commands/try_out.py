@@ -21,10 +21,10 @@ from tools.root import ROOT
 CRATE = "onixdesk"
 BUILT = PROGRAM.with_name(f"{PROGRAM.name}.unproved")
 
-# With the name of a file the program reads it, and needs nothing else.
+# Given the name of a file, the program reads it, and needs nothing else.
 READING = ["convert"]
 
-# How long to wait before a program that is being built is looked for again, in seconds.
+# How long to wait before looking again for a program that is being built, in seconds.
 PAUSE = 0.1
 
 WHERE = f"""\
@@ -34,7 +34,7 @@ onixdesk: it is built to find faults, and not for speed: it takes 3 seconds to o
 
 
 def open_when_read(pipe: Path, tried: subprocess.Popen[bytes]) -> int | None:
-    """Opens a named pipe as soon as the program that is tried reads it; none if the program is not built."""
+    """Opens a named pipe as soon as the tested program reads it; none if the program is not built."""
     while tried.poll() is None:
         try:
             return os.open(pipe, os.O_WRONLY | os.O_NONBLOCK)
@@ -64,7 +64,7 @@ def build(room: Path) -> None:
         opened = open_when_read(pipe, tried)
         if opened is None:
             why = said.read_text(encoding="utf-8", errors="replace").strip()
-            # One that was killed has written nothing.
+            # A killed one has written nothing.
             raise RuntimeError(why or f"rt try ended with status {tried.returncode} and wrote nothing")
         # `rt try` runs a program in a folder of its own, where it is the file `program`.
         (built,) = room.glob("*/*/program")

@@ -1,5 +1,5 @@
-"""Programs that are killed: the inbox, copies and restores at each of their system calls that writes, renames, syncs or
-sends, the others by chance."""
+"""Kills programs: the inbox, copies and restores at each of their system calls that writes, renames, syncs or sends,
+the others by chance."""
 
 from collections.abc import Callable
 

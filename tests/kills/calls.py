@@ -1,4 +1,4 @@
-"""The system calls by which a program changes what it keeps or says something; a kill at one of them, by strace, and at
+"""The system calls by which a program changes files or says something, and how strace kills it at one of them, or at
 some moment."""
 
 import os
@@ -19,14 +19,14 @@ WRITES = """
     fsync fdatasync sync_file_range sendto sendmsg chmod fchmod fchmodat chown fchown fchownat utimensat
 """.split()
 
-# Of these only some change a file.
+# Only some of these change a file.
 OPENS = {"openat": re.compile(r"O_(CREAT|TRUNC|WRONLY|RDWR)"), "ioctl": re.compile("FICLONE")}
 
 LINE = re.compile(r"([a-z0-9_]+)\(.*")
 
 
 class Point(NamedTuple):
-    """The call of that name which is the program's so many'th of it."""
+    """The program's call of that name and number."""
 
     call: str
     place: int
@@ -37,7 +37,7 @@ class Failed(Exception):
 
 
 def points_in(trace: str) -> list[Point]:
-    """The points of a trace, in their order."""
+    """The points of a trace, in order."""
     counts: Counter[str] = Counter()
     found = []
     for line in trace.splitlines():
@@ -51,7 +51,7 @@ def points_in(trace: str) -> list[Point]:
 
 
 def tracing(*how: str) -> list[str]:
-    """The words by which strace writes the calls of a program, and follows no process that it begins."""
+    """The command by which strace writes a program's calls, without its children's."""
     names = ",".join([*WRITES, *OPENS])
     return ["strace", "-o", "trace", "-e", f"trace={names}", "-e", "signal=none", *how]
 
@@ -70,7 +70,7 @@ def traced(words: Sequence[Word], folder: Path, environment: Mapping[str, str], 
 
 
 def points_of(words: Sequence[Word], folder: Path, environment: Mapping[str, str]) -> tuple[Ran, list[Point]]:
-    """How a run ends that nobody kills, and its points."""
+    """How an undisturbed run ends, and its points."""
     ran = traced(words, folder, environment)
     trace = folder / "trace"
     found = points_in(trace.read_text(encoding="utf-8", errors="replace"))
@@ -79,14 +79,14 @@ def points_of(words: Sequence[Word], folder: Path, environment: Mapping[str, str
 
 
 def kill_at(point: Point, words: Sequence[Word], folder: Path, environment: Mapping[str, str]) -> Ran:
-    """A run that is killed as it comes to a point, before the call has done anything."""
+    """A run that is killed at a point, before the call has done anything."""
     ran = traced(words, folder, environment, "-e", f"inject={point.call}:signal=KILL:when={point.place}")
     (folder / "trace").unlink(missing_ok=True)
     return ran
 
 
 def kill_after(seconds: float, words: Sequence[Word], folder: Path, environment: Mapping[str, str]) -> Ran:
-    """A run that is killed so many seconds after its start, with all that it has started."""
+    """A run that is killed with its children, so many seconds after its start."""
     run = subprocess.Popen(
         words,
         cwd=folder,

@@ -27,7 +27,7 @@ OLD = ["2025-01-01T00-00-00Z", "2025-01-02T00-00-00Z"]
 
 
 class OfCopy(Scenario):
-    """Beside two others, of which the older one is removed."""
+    """Beside two others; the older one is removed."""
 
     def __init__(self, room: Room) -> None:
         super().__init__(room)
@@ -46,7 +46,7 @@ class OfCopy(Scenario):
         return [ROOT / "bin/desk-copy", "--keep", "2", DATABASE, "copies"]
 
     def wrong_then(self) -> Iterator[str]:
-        """What has the name of a copy is a whole one."""
+        """A folder with the name of a copy is a whole copy."""
         whole = 0
         for folder in self.room.path("copies").iterdir():
             if not is_name(folder.name):
@@ -70,7 +70,7 @@ class OfCopy(Scenario):
 
 
 class OfRestore(Scenario):
-    """A copy is put into the place of a desk that has other rows, on a machine where no unit runs."""
+    """A copy replaces a desk that has other rows, on a machine where no unit runs."""
 
     # No desk ran that could be started.
     status = 1
@@ -87,7 +87,7 @@ class OfRestore(Scenario):
         self.script("onixdesk", "echo gaps,north,first=1,next=1,greatest=,held=0,missing=0")
 
     def moved(self, name: str) -> Files:
-        """What the files of a desk have, which are moved into a folder of that name."""
+        """The contents of a desk's files, which are moved into a folder of that name."""
         folder = self.room.path(name)
         folder.mkdir()
         for each in (DATABASE, LOG):
@@ -106,7 +106,7 @@ class OfRestore(Scenario):
 
     def words(self) -> Sequence[Word]:
         places = [f"--{name}=none" for name in ("inboxes", "settings")]
-        # What the desk has beyond the copy was posted by hand.
+        # The desk's messages beyond the copy were posted by hand.
         return [ROOT / "bin/desk-restore", "--db", f"desk/{DATABASE}", *places, "--gaps", "--yes", "copy"]
 
     def environment(self) -> Mapping[str, str]:
@@ -123,7 +123,7 @@ class OfRestore(Scenario):
             yield "the copy is another one"
 
     def wrong_at_end(self) -> Iterator[str]:
-        """What stood there is there, of a run that was killed too."""
+        """The old desk is there, even after a killed run."""
         if self.standing() != self.new or ".cases.db.work" in os.listdir(self.room.path("desk")):
             if (ran := run_again(self.room, self.words(), self.environment())).status != self.status:
                 yield f"{ran}"

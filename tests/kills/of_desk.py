@@ -1,4 +1,4 @@
-"""A desk that is killed at some moment of a batch has the rows of what it has answered, or of one request more."""
+"""A desk that is killed amid a batch has the rows of its answered requests, or of one more."""
 
 import subprocess
 import time
@@ -11,12 +11,12 @@ from tests.program.room import SECONDS, Ran, Room
 from tests.running import Outcome
 from tools.words import Word
 
-# The requests of a batch, and the batches of each of which a run is killed.
+# The requests of a batch, and the batches for each killed run.
 REQUESTS, BATCHES = 60, 8
 
 
 def requests(random: Random, first: int) -> list[bytes]:
-    """Messages out of order, some of them twice, and waivers, each of which has an answer of one line."""
+    """Messages out of order, some of them twice, and waivers; the answer to each is one line."""
     numbers = [*range(first, first + REQUESTS), *random.sample(range(first, first + REQUESTS), REQUESTS // 4)]
     random.shuffle(numbers)
     return [
@@ -30,7 +30,7 @@ def given(room: Room, file: str, some: list[bytes]) -> Ran:
 
 
 def killed(room: Room, some: list[bytes], answered: int, seconds: float) -> int:
-    """How many requests were answered by a run that was killed so many seconds after it had answered some."""
+    """How many requests a run answered that was killed so many seconds after some answers."""
     room.write("requests", b"".join(some))
     with open(room.path("requests"), "rb") as text:
         words: list[Word] = [room.program, "--db", "killed.db", "batch"]
@@ -40,14 +40,14 @@ def killed(room: Room, some: list[bytes], answered: int, seconds: float) -> int:
         run.stdout.readline()
     time.sleep(seconds)
     run.kill()
-    # What has been read ahead stands before what is in the pipe.
+    # What was read ahead comes before what is in the pipe.
     output = run.stdout.read()
     run.wait(SECONDS)
     return answered + output.count(b"\n")
 
 
 def at_some_moments(room: Room) -> Iterator[Outcome]:
-    """Behind each kill the rest is answered as by a desk that nobody killed."""
+    """After each kill the rest is answered as by a desk that nobody killed."""
     random = Random(41)
     for file in "killed.db", "whole.db":
         given(room, file, [AGREEMENT])
@@ -55,7 +55,7 @@ def at_some_moments(room: Room) -> Iterator[Outcome]:
         some = requests(random, 1 + place * REQUESTS)
         count = killed(room, some, random.randrange(len(some)), random.uniform(0, 0.02))
         given(room, "whole.db", some[:count])
-        # The desk itself goes over what the kill has left.
+        # The desk itself checks what the kill left.
         given(room, "killed.db", [])
         if all_rows(room, "killed.db") != all_rows(room, "whole.db"):
             given(room, "whole.db", some[count : count + 1])

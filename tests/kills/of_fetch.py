@@ -40,7 +40,7 @@ class OfFetch(Scenario):
         return self.fetch.environment
 
     def wrong_then(self) -> Iterator[str]:
-        """Nothing is lost, and what an inbox would take is whole."""
+        """Nothing is lost, and what an inbox would take is complete."""
         texts = {*NAMES.values(), WAITS}
         shown = [path for path in self.fetch.incoming.iterdir() if not path.name.startswith(".")]
         yield from (f"{path.name} is not whole" for path in shown if path.read_text() not in texts)
@@ -63,7 +63,7 @@ class OfFetch(Scenario):
 
 
 def disk_that_takes_nothing(room: Room) -> Iterator[Outcome]:
-    """What the disk has not is neither removed from the server nor shown to the inbox."""
+    """Files that are not synced are neither removed from the server nor shown to the inbox."""
     scenario = OfFetch(room)
     room.path("bin").mkdir()
     environment = {**scenario.environment(), "PATH": f"{room.path('bin')}:{os.environ['PATH']}"}

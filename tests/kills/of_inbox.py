@@ -1,4 +1,4 @@
-"""The inbox of a wholesaler without numbers, killed over four files, of which one is refused."""
+"""The inbox of a wholesaler without numbers, killed over four files, one of which is refused."""
 
 import itertools
 import json
@@ -18,15 +18,15 @@ from tests.shop.feeds import Book, feed
 from tools.root import ROOT
 from tools.words import Word
 
-# Each run has a series of its own, of which the desk agrees so many.
+# Each run has a series of its own; the desk agrees on so many.
 SERIES = 600
 
-# Files of ours are older than any clock.
+# Our files are older than any clock.
 BEGINNING = 1_600_000_000
 
 
 class OfInbox(Scenario):
-    """Each run begins with new files and an empty ledger. Once it is killed another file comes, behind the others."""
+    """Each run begins with new files and an empty ledger. After the kill another file comes, behind the others."""
 
     status = 1
 
@@ -72,7 +72,7 @@ class OfInbox(Scenario):
             return found
 
     def wrong_then(self) -> Iterator[str]:
-        """The bytes of each file lie in its folder, or in the store."""
+        """The bytes of each file are in its folder, or in the store."""
         paths = [path for name in ("incoming", "inboxes") for path in self.room.path(name).rglob("*")]
         there = [path.read_bytes() for path in paths if path.is_file()]
         yield from (f"{name} is lost" for name, data in self.sent.items() if data not in there)
@@ -88,7 +88,7 @@ class OfInbox(Scenario):
                 name for (name,) in ledger.execute("SELECT name FROM file WHERE state = 'applied' ORDER BY number")
             ]
         ordered = ["d.xml", "c.xml", "a.xml", "z.xml"]
-        # A name is ours where the inbox was killed amid its removal.
+        # A name is ours if the inbox was killed while it removed the file.
         if len(numbers) != 4 or [name for name in numbers if not name.startswith("taken-")] != [
             name for name in ordered if name in numbers
         ]:

@@ -1,4 +1,4 @@
-"""desk-prices, which replaces a file, and what replaces a desk: desk-renew, and correct.sh with all that it calls."""
+"""desk-prices, which replaces a file; and desk-renew and correct.sh, which replace a desk, with all that they call."""
 
 import json
 import os
@@ -24,7 +24,7 @@ RULES = b'[[rule]]\nseries = "*"\ncodes = ["21"]\n'
 
 
 class OfPrices(Scenario):
-    """The till's file is that of before, or the new one, whole."""
+    """The till's file is the old one or the new one, whole."""
 
     def __init__(self, room: Room) -> None:
         super().__init__(room)
@@ -54,7 +54,7 @@ class OfPrices(Scenario):
 
 
 class OfRenewal(OfRestore):
-    """A desk of two messages gets one that begins with its catalogue, on a machine where no unit runs."""
+    """A desk of two messages is replaced by one that begins with its catalogue, on a machine where no unit runs."""
 
     def __init__(self, room: Room) -> None:
         Scenario.__init__(self, room)
@@ -71,7 +71,7 @@ class OfRenewal(OfRestore):
         return [ROOT / "bin/desk-renew", "--db", f"desk/{DATABASE}", *places, "--yes"]
 
     def rows_in(self, folder: str) -> dict[str, list[Row]]:
-        """The rows of a desk, of which a copy is read: SQLite would change it."""
+        """The rows of a desk, read from a copy: SQLite would change the desk."""
         looked = self.room.path("looked")
         looked.mkdir()
         for name in (DATABASE, f"{DATABASE}-wal"):

@@ -12,21 +12,21 @@ from tests.kills.calls import Failed, Point, kill_after, kill_at, points_of
 from tests.program.room import Ran, Room
 from tools.words import Word
 
-# How often a program is killed by chance if no number is given.
+# How often a program is killed by chance, unless a number is given.
 MOMENTS = 40
 
 
 class Scenario:
     """One program over one state, in a room."""
 
-    # How a run ends that nobody kills.
+    # How an undisturbed run ends.
     status = 0
 
     def __init__(self, room: Room) -> None:
         self.room = room
 
     def prepare(self) -> None:
-        """Puts the state there that each run begins with."""
+        """Prepares the state that each run begins with."""
         raise NotImplementedError
 
     def words(self) -> Sequence[Word]:
@@ -36,19 +36,19 @@ class Scenario:
         return os.environ
 
     def wrong_then(self) -> Iterator[str]:
-        """What is wrong once the program was killed."""
+        """What is wrong after the kill."""
         return iter(())
 
     def wrong_at_end(self) -> Iterator[str]:
-        """What is wrong once it was run again, as somebody would run it."""
+        """What is wrong after another run, as somebody would run it."""
         raise NotImplementedError
 
     def close(self) -> None:
-        """Ends what runs beside."""
+        """Ends what runs beside it."""
 
 
 class Judged(NamedTuple):
-    """How many points there are of each call, or moments; how many were tried, and what was wrong at which."""
+    """How many points there are of each call, or moments; how many were tried; and what was wrong at which."""
 
     points: Counter[str]
     tried: int
@@ -56,14 +56,14 @@ class Judged(NamedTuple):
 
 
 def spread(points: list[Point], most: int) -> list[Point]:
-    """So many of them, as far apart as can be."""
+    """So many of them, as far apart as possible."""
     if most >= len(points):
         return points
     return [points[(2 * place + 1) * len(points) // (2 * most)] for place in range(most)]
 
 
 def chosen(points: list[Point], most: int | None) -> list[Point]:
-    """All points, or so many of those at which a file gets another name, and of the others half as many."""
+    """All points; or so many of those that rename a file, and half as many of the others."""
     if most is None:
         return points
     renaming = [point for point in points if point.call.startswith("rename")]
@@ -73,14 +73,14 @@ def chosen(points: list[Point], most: int | None) -> list[Point]:
 
 
 def check(scenario: Scenario, ran: Ran) -> None:
-    """Fails where a run that nobody kills ends in another way, or leaves something wrong."""
+    """Fails if an undisturbed run ends in another way, or leaves something wrong."""
     if ran.status != scenario.status or (wrong := [*scenario.wrong_at_end()]):
         raise Failed(f"a run that nobody kills: {ran}: {wrong if ran.status == scenario.status else ''}")
 
 
 def wrong_after(scenario: Scenario, ended: Ran) -> Iterator[str]:
-    """What is wrong with the state that a killed run leaves, and with that which the next run makes of it."""
-    # One that came to fewer calls of the kind than the first run, or was quicker, has done all.
+    """What is wrong with the state that a killed run leaves, and with what the next run makes of it."""
+    # A run that came to fewer such calls than the first run, or was quicker, has finished.
     if ended.status not in (-signal.SIGKILL, scenario.status):
         yield f"{ended}"
         return

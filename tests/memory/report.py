@@ -1,4 +1,4 @@
-"""Says what came of sweeps, a line for each, and counts the runs that failed."""
+"""Reports sweeps, a line for each, and counts the runs that failed."""
 
 import sys
 import tempfile
@@ -7,7 +7,7 @@ from pathlib import Path
 from tests.memory.sweep import MemoryFault, Sweep, Swept, Tests
 from tools.root import ROOT
 
-# How many of the runs of a sweep that failed are shown.
+# How many failed runs of a sweep are shown.
 SHOWN = 5
 
 PROGRAM = ROOT / "crates/desk_tests/out/desk_tests_tests"
@@ -24,7 +24,7 @@ def is_stale(program: Path) -> bool:
 
 
 def tell(swept: Swept) -> int:
-    """Prints a sweep and its first runs that failed, and gives how many did."""
+    """Prints a sweep and its first failed runs; returns how many failed."""
     print(swept.line(), flush=True)
     failed = swept.failed()
     for run in failed[:SHOWN]:
@@ -33,7 +33,7 @@ def tell(swept: Swept) -> int:
 
 
 def report(program: Path, sweeps: list[Sweep]) -> int:
-    """Runs sweeps of a program of tests, and gives 1 where a run failed or a test did not begin, else 0."""
+    """Runs sweeps of a test program; returns 1 if a run failed or a test did not begin, else 0."""
     count = failed = 0
     with tempfile.TemporaryDirectory(prefix="onixdesk-") as folder:
         try:

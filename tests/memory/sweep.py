@@ -17,7 +17,7 @@ from tests.preloaded import NoCompiler, build
 
 SOURCE = Path(__file__).resolve().parent / "refuse.c"
 
-# The words of a test that could not go on, since it was itself refused memory.
+# The words of a test that was itself refused memory.
 ENDED = ["refused to the test itself", "a disk in memory that could not grow"]
 
 # The greatest number of seconds of one process.
@@ -25,7 +25,7 @@ SECONDS = 3600
 
 
 class MemoryFault(Exception):
-    """What kept a test from being run."""
+    """Why a test could not be run."""
 
 
 class Sweep(NamedTuple):
@@ -55,7 +55,7 @@ class Run(NamedTuple):
     said: str
 
     def is_ended(self) -> bool:
-        """Whether the test itself could not go on."""
+        """Whether the test itself lacked memory."""
         return self.status != 0 and any(words in self.said for words in ENDED)
 
     def is_failed(self) -> bool:
@@ -88,13 +88,13 @@ class Tests:
             build(SOURCE, self.library)
         except NoCompiler as none:
             raise MemoryFault(str(none)) from None
-        # A test that fails would leave a core file.
+        # A failing test would leave a core file.
         resource.setrlimit(resource.RLIMIT_CORE, (0, 0))
 
     def process(
         self, sweep: Sweep, environment: dict[str, str], said: IO[bytes], passed: Collection[int] = ()
     ) -> bytes:
-        """What the test writes on standard error, the file `said`, in this environment, where it passes."""
+        """What the test writes on standard error, the file `said`, in this environment, if it passes."""
         chosen = {"CASES": sweep.cases} if sweep.cases else {}
         status = subprocess.run(
             [self.program, sweep.test],
@@ -128,7 +128,7 @@ class Tests:
             return [run_of(line, texts) for line in contents(told).splitlines()]
 
     def swept(self, sweep: Sweep) -> Swept:
-        """A sweep in as many processes as there are processors, after one in which nothing is refused."""
+        """A sweep in as many processes as there are processors, after one without a refusal."""
         with self.file() as said:
             self.process(sweep, {}, said)
         count = os.cpu_count() or 1

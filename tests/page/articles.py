@@ -12,7 +12,7 @@ from tests.running import Outcome
 BOOK, UNADMITTED, NOBODYS, FREE, FAR = (isbn_of(number) for number in (9001, 9002, 9003, 9004, 9005))
 WRONG = BOOK[:12] + str((int(BOOK[12]) + 1) % 10)
 
-# Texts that a feed may say, which mean something in HTML or turn what stands beside them.
+# Texts that a feed may have, which mean something in HTML or change the direction of others.
 HOSTILE = "<img src=x onerror=alert(1)>"
 TURNING = "one\u202etwo"
 
@@ -43,7 +43,7 @@ def article(isbn: str, **given: str) -> str:
 
 
 def open_article(browser: Browser, address: str, words: str) -> str:
-    """Opens a view anew; what it says once it has these words."""
+    """Opens a view; returns its text once it has these words."""
     browser.open(address)
     return browser.wait_for_text("#article-status", words)
 
@@ -88,7 +88,7 @@ def chosen(site: PlainSite, browser: Browser) -> Iterator[Outcome]:
 
 
 def not_chosen(site: PlainSite, browser: Browser) -> Iterator[Outcome]:
-    """Why nothing is bought: the rules can be read, and nobody is said to have no offer whose messages are missing."""
+    """Why nothing is bought: the rules show, and nobody with missing messages is said to have no offer."""
     fill(site)
     came = open_article(browser, article(UNADMITTED), "No rule")
     yield Outcome("no rule", came.splitlines()[0], "No rule of the shop allows any of these offers")
@@ -117,7 +117,7 @@ def not_chosen(site: PlainSite, browser: Browser) -> Iterator[Outcome]:
 
 
 def careful(site: PlainSite, browser: Browser) -> Iterator[Outcome]:
-    """A price of nothing, one far from others, a wrong ISBN, other fields, another answer later."""
+    """A price of 0, one far from others, a wrong ISBN, changed fields, a later answer."""
     fill(site)
     came = open_article(browser, article(FREE), "ask before")
     yield Outcome("a price of 0", came.splitlines()[0], "Alpha Books says £0.00: ask before you order")
@@ -145,7 +145,7 @@ def careful(site: PlainSite, browser: Browser) -> Iterator[Outcome]:
 
 
 def without_the_desk(site: PlainSite, browser: Browser) -> Iterator[Outcome]:
-    """A password that is no longer right is told as what it is, and a desk that is away is asked again."""
+    """A password that is no longer right is reported, and a desk that is down is asked again."""
     fill(site)
     site.status = 401
     browser.open(article(BOOK))

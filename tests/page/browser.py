@@ -1,4 +1,4 @@
-"""A headless Chromium that finds the site's name at this machine, and no other name at all."""
+"""A headless Chromium that resolves the site's name to this machine, and no other name."""
 
 import contextlib
 import os
@@ -20,8 +20,8 @@ from tests.page.site import NAME, PASSWORD, USER, Site
 from tests.program.room import SECONDS
 from tests.program.serving import HOST
 
-# Chromium whole, and its shell without windows, whose pages are the same: to open one takes it half the processor. The
-# shell is named itself: of /usr/bin/chromium-headless-shell, which starts it and waits, the driver would end that alone.
+# All of Chromium, and its windowless shell, whose pages are the same and open in half the processor time. The shell is
+# named itself, since the driver would end only /usr/bin/chromium-headless-shell, which starts it and waits.
 CHROMIUM = "/usr/bin/chromium"
 SHELL = "/usr/lib/chromium/chromium-headless-shell"
 DRIVER = "/usr/bin/chromedriver"
@@ -33,7 +33,7 @@ WIDE = (1100, 900)
 # How long a wait is between two looks.
 FIRST_PAUSE, LONGEST_PAUSE = 0.04, 0.3
 
-# The texts of the functions that are run in a page.
+# The texts of the functions that run in a page.
 SCRIPTS = Path(__file__).with_name("functions.js").read_text(encoding="utf-8")
 FUNCTIONS = {found[1]: found[0] for found in re.finditer(r"^function (\w+)\(.*?^}", SCRIPTS, re.M | re.S)}
 
@@ -41,7 +41,7 @@ Found = TypeVar("Found")
 
 
 def load() -> str:
-    """What else the machine does: a busy one takes longer than a shop's, so what is told of seconds decides nothing."""
+    """A busy machine takes longer than a shop's, so no time in seconds decides anything."""
     return f"on a machine with {os.getloadavg()[0] / (os.cpu_count() or 1):.1f} processes a core"
 
 
@@ -51,17 +51,17 @@ def options(is_whole: bool) -> Options:
     names = f"MAP {NAME} {HOST}, MAP {STRANGER} {HOST}, MAP * ~NOTFOUND, EXCLUDE {HOST}"
     for word in [
         "--headless=new",
-        # Chromium's own sandbox takes no root user, as whom a gate runs.
+        # Chromium's sandbox refuses root, as whom a gate runs.
         "--no-sandbox",
         "--disable-dev-shm-usage",
         "--disable-gpu",
         "--ignore-certificate-errors",
         "--disable-background-networking",
-        # On a machine with much to do a page that is taken for one in the background gets no time for minutes.
+        # On a busy machine a page that counts as in the background gets no time for minutes.
         "--disable-renderer-backgrounding",
         "--disable-backgrounding-occluded-windows",
         "--disable-background-timer-throttling",
-        # A page that is opened anew has the process of the one before: to make one takes a third of what the page does.
+        # A page that is opened again shares the old one's process: making one takes a third of what the page does.
         "--process-per-site",
         f"--host-resolver-rules={names}",
     ]:
@@ -71,14 +71,14 @@ def options(is_whole: bool) -> Options:
 
 
 class Browser:
-    """`is_whole` is Chromium with all that stands around a page."""
+    """`is_whole` is Chromium with all that surrounds a page."""
 
     def __init__(self, site: Site | PlainSite, is_whole: bool = True) -> None:
         self.site = site
         self.opened = 0
         self.driver = webdriver.Chrome(options=options(is_whole), service=Service(DRIVER))
         self.size(*WIDE)
-        # The browser asks for the name and the password once; from then on it knows them. There is nothing to be kept.
+        # The browser asks for the name and the password once, and then knows them. Nothing is kept.
         self.driver.get(site.address("/nothing", user=f"{USER}:{PASSWORD}@"))
         self.driver.get("about:blank")
 
@@ -88,7 +88,7 @@ class Browser:
         self.driver.execute_cdp_cmd("Emulation.setDeviceMetricsOverride", metrics)
 
     def open(self, address: str) -> None:
-        """Opens a view anew, of a page that has not been open: one that differs behind the `#` alone would stay."""
+        """Opens a view in a new page: an address that differs only behind the `#` would stay."""
         self.opened += 1
         self.driver.get(self.site.address(f"/?{self.opened}{address}"))
 
@@ -105,15 +105,15 @@ class Browser:
         return str(self.one(selector).text)
 
     def shows(self, selector: str, words: str = "") -> bool:
-        """Whether a part is seen, and has these words. It is what waits ask: WebDriver's own reading of a text takes
-        six times as long, and all of that of the browser that is waited for."""
+        """Whether a part is visible, and has these words. Waits ask this: WebDriver's own reading of a text takes six
+        times as long, all of it from the browser that is waited for."""
         return bool(self.call("shows", selector, words))
 
     def texts(self, selector: str) -> list[str]:
         return [found.text for found in self.all(selector)]
 
     def run(self, script: str, *given: object) -> Any:
-        """What the script returns, in Python's types."""
+        """What the script returns, as Python's types."""
         return self.driver.execute_script(script, *given)
 
     def call(self, name: str, *given: object) -> Any:
@@ -121,8 +121,8 @@ class Browser:
         return self.run(f"{FUNCTIONS[name]}\nreturn {name}(...arguments);", *given)
 
     def wait(self, holds: Callable[[], Found], seconds: float = SECONDS) -> Found | None:
-        """Waits until it holds, and gives what it gave; after so many seconds, what it gave last. It looks the more
-        seldom the longer it waits, since each look takes time of the browser that is waited for."""
+        """Waits until it holds, and returns what it gave; after so many seconds, what it gave last. It looks less often
+        the longer it waits, since each look takes time of the browser that is waited for."""
         end = time.monotonic() + seconds
         pause = FIRST_PAUSE
         while True:
@@ -135,7 +135,7 @@ class Browser:
             pause = min(1.5 * pause, LONGEST_PAUSE)
 
     def wait_for_text(self, selector: str, words: str, seconds: float = SECONDS) -> str:
-        """Waits until a text has these words; gives that text, or else the last one."""
+        """Waits until a text has these words; returns that text, or the last one."""
         texts = [""]
 
         def holds() -> bool:

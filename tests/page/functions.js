@@ -1,13 +1,13 @@
-// What the tests run in a page: each function by itself (`Browser.call`).
+// Functions that the tests run in a page, each by itself (`Browser.call`).
 
-// Whether a part is seen, and has these words, however its lines are broken.
+// Whether a part is visible, and has these words, however its lines break.
 function shows(selector, words) {
   const flat = (text) => text.replace(/\s+/g, ' ');
   const part = document.querySelector(selector);
   return part !== null && part.checkVisibility() && flat(part.innerText).includes(flat(words));
 }
 
-// The contrast of each text that is shown to what is behind it, by WCAG 2's formula.
+// The contrast of each visible text to its background, by WCAG 2's formula.
 function contrasts() {
   const colour = (text) => {
     const [red, green, blue, alpha = 1] = text.match(/[\d.]+/g).map(Number);
@@ -73,7 +73,7 @@ function smallTargets() {
   }).map((found) => found.outerHTML.slice(0, 80));
 }
 
-// Puts a text into the lines as a paste does.
+// Puts a text into the lines, like a paste.
 function pasteLines(text) {
   const lines = document.getElementById('lines');
   lines.focus();
@@ -85,7 +85,7 @@ function pasteLines(text) {
   lines.dispatchEvent(new Event('input', { bubbles: true }));
 }
 
-// Notes how long the page is busy at once, from now on.
+// Notes how long the page is busy at a time, from now on.
 function noteBlocks() {
   window.blocks = [];
   new PerformanceObserver((list) => {
@@ -93,7 +93,7 @@ function noteBlocks() {
   }).observe({ type: 'longtask' });
 }
 
-// The controls that a screen reader has no name for, and the ids that two elements have.
+// The controls without a name for a screen reader, and the ids that two elements have.
 function unnamed() {
   const controls = [...document.querySelectorAll('a, button, input:not([hidden]), select, summary, textarea')];
   const isNamed = (found) => found.textContent.trim() !== '' && found.localName !== 'select' && found.localName !== 'textarea'

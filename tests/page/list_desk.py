@@ -1,5 +1,5 @@
-"""The page as it is, with a stand-in for the desk: three wholesalers with net prices of any number of books. What is
-expected of them is reckoned here, in decimals. No nginx, no password and no program stand between."""
+"""The page with a stand-in for the desk: three wholesalers with net prices of any number of books. Expected values are
+computed here, in decimals. No nginx, password or program stands between."""
 
 import json
 import threading
@@ -21,7 +21,7 @@ FREE_FROM = Decimal("50.00")
 
 
 def isbn_of(number: int) -> str:
-    """An ISBN of thirteen digits, by the sums of the standard."""
+    """An ISBN-13, with the check digit of the standard."""
     twelve = f"97805{number:07d}"
     total = sum(int(digit) * (1, 3)[at % 2] for at, digit in enumerate(twelve))
     return twelve + str(-total % 10)
@@ -58,7 +58,7 @@ def book_of(number: int) -> Book:
 
 
 class ListDesk:
-    """The books, and how many messages of each wholesaler are missing; both may change. `asked` is what was asked for."""
+    """The books, and how many messages of each wholesaler are missing; both may change. `asked` has the requests."""
 
     def __init__(self) -> None:
         self.books = {isbn_of(number): book_of(number) for number in range(1000)}
@@ -91,7 +91,7 @@ class ListDesk:
 
 
 def settings(forms: dict[str, object] | None = None, **others: object) -> str:
-    """desk.json with these wholesalers, some with forms of their files."""
+    """desk.json with these wholesalers, some with forms for their files."""
     series: list[dict[str, object]] = [{"name": name, "words": words} for name, words in WHOLESALERS.items()]
     series[0] |= {"free_from": str(FREE_FROM), "account": "1177"}
     for item in series:
@@ -102,7 +102,7 @@ def settings(forms: dict[str, object] | None = None, **others: object) -> str:
 
 
 def state(**others: object) -> str:
-    """What the inbox says of a wholesaler whose numbered files are complete."""
+    """The inbox's report on a wholesaler whose numbered files are complete."""
     now = int(time.time())
     whole: dict[str, object] = {
         "version": 1, "at": now, "numbered": True, "desk": True, "silent": False, "waiting": 0, "quarantined": 0,
@@ -112,12 +112,12 @@ def state(**others: object) -> str:
     return json.dumps(whole | others)
 
 
-# The rules of the shop, as the service has written them.
+# The rules of the shop, as the service writes them.
 RULES = [{"series": "*", "codes": ["20", "21"], "max": "15.00"}, {"series": "*", "codes": ["20", "21", "22"]}]
 
 
 class PlainSite:
-    """The page, the stand-in below `/desk/`, and the shop's own files, by their paths; `asked` has what was asked for."""
+    """The page, the stand-in below `/desk/`, and the shop's own files, by path; `asked` has the requests."""
 
     def __init__(self) -> None:
         self.begin()
@@ -133,7 +133,7 @@ class PlainSite:
         threading.Thread(target=self.server.serve_forever, args=[LOOK], daemon=True).start()
 
     def begin(self, **others: object) -> ListDesk:
-        """The desk and the shop's own files as they are at first, with other settings."""
+        """The desk and the shop's own files as at first, with other settings."""
         self.desk = ListDesk()
         self.files = {"/desk.json": settings(**others)}  # type: ignore[arg-type]
         self.files |= {f"/state/{name}.json": state() for name in WHOLESALERS}

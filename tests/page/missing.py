@@ -10,7 +10,7 @@ from tests.running import Outcome
 
 
 def card(browser: Browser, series: str) -> list[str]:
-    """What a wholesaler's card says."""
+    """The text of a wholesaler's card."""
     script = "return document.getElementById(arguments[0]).parentElement.innerText"
     return [line for line in str(browser.run(script, f"series-{series}")).splitlines()[1:] if line]
 
@@ -62,7 +62,7 @@ def unseen(site: PlainSite, browser: Browser) -> Iterator[Outcome]:
 
 
 def letter(site: PlainSite, browser: Browser) -> Iterator[Outcome]:
-    """The letter has the wholesaler's own numbers; where the browser does not copy, it is shown."""
+    """The letter has the wholesaler's own numbers; if the browser does not copy, it is shown."""
     site.begin()
     site.files["/desk.json"] = settings().replace(
         '"free_from"', '"number_offset": 3, "mail": "edi@alpha.example", "free_from"'

@@ -20,12 +20,12 @@ from tests.running import Outcome
 # With all that a list asks before it is looked up.
 SECONDS = 240
 
-# The way to the orders is by the keyboard: how many keys a till's export of thirty lines may take.
+# The orders are reached by keyboard: how many keys a till's export of thirty lines may take.
 MOST_KEYS = 45
 
 
 class Keyboard:
-    """Keys that are pressed one after the other, and counted."""
+    """Presses keys one after the other, and counts them."""
 
     def __init__(self, browser: Browser) -> None:
         self.browser = browser
@@ -43,7 +43,7 @@ class Keyboard:
 
 
 def open_list(browser: Browser, text: str = "") -> None:
-    """The view of a page that is opened anew, with these lines."""
+    """The view of a newly opened page with these lines."""
     browser.open("")
     browser.run("sessionStorage.clear()")
     browser.open("#order")
@@ -80,7 +80,7 @@ def looked_up(browser: Browser, books: int) -> None:
 
 
 def note_of(browser: Browser, number: int) -> str:
-    """What a row says below its cells."""
+    """The remarks below a row's cells."""
     script = """return [...document.querySelectorAll('#list tbody tr')]
       .find((row) => row.textContent.includes(arguments[0])).querySelector('.said').innerText"""
     return str(browser.run(script, isbn_of(number)))
@@ -91,7 +91,7 @@ def money(amount: Decimal) -> str:
 
 
 def saved_in(folder: Path, browser: Browser, files: int) -> dict[str, list[list[str]]]:
-    """The rows of each wholesaler's file, once so many are there."""
+    """The rows of each wholesaler's file, once so many files are there."""
     browser.wait(lambda: len(list(folder.glob("*.csv"))) >= files)
     return {
         path.stem.rsplit("-", 1)[1]: list(csv.reader(io.StringIO(path.read_bytes().decode("utf-8-sig"))))
@@ -109,7 +109,7 @@ def get_orders(browser: Browser) -> None:
 
 
 def marks(site: PlainSite, browser: Browser) -> Iterator[Outcome]:
-    """Each line that orders nothing is marked in its place; it stays until it is put right or struck out."""
+    """Each line that orders nothing is marked in place; it stays until it is put right or struck out."""
     site.begin()
     open_list(browser, f"{isbn_of(0)} 2\nDear Sirs\n{isbn_of(1)}\n{isbn_of(3)} 2,0\n")
     looked_up(browser, 1)
@@ -146,12 +146,12 @@ def marks(site: PlainSite, browser: Browser) -> Iterator[Outcome]:
     yield Outcome("copies: of two lines none has the sum to set", browser.run(shown), ["5", None])
 
 
-# How mails say copies.
+# How mails write copies.
 SAID = "3 ex {} A title/{} - 3 copies/{}: 3/{}, 3/3 {}/3 x {}/{} 3 x/{} (3)/- {} 3/> {} 3/{} 3 Stk/{}".split("/")
 
 
 def mail(site: PlainSite, browser: Browser) -> Iterator[Outcome]:
-    """The lines of a mail are marked; the buyer gives each its copies, by the keyboard alone, and nothing else does."""
+    """The lines of a mail are marked; the buyer gives each its copies, by keyboard alone, and nothing else does."""
     site.begin()
     said = [words.format(isbn_of(number)) for number, words in enumerate(SAID)]
     open_list(browser, "\n".join(["Dear Anna,", *said, "Kind regards", "Tel. 020 7946 0958"]))
@@ -198,7 +198,7 @@ def scanned(site: PlainSite, browser: Browser) -> Iterator[Outcome]:
 
 
 def tables(site: PlainSite, browser: Browser) -> Iterator[Outcome]:
-    """A table is turned into lines by the buyer: nothing is proposed, and nothing looked up before."""
+    """A buyer turns a table into lines: nothing is proposed, and nothing is looked up before."""
     rows = [f'{isbn_of(number)};"Title; {number}";12;{number % 4}' for number in range(12)]
     table = "ISBN;Title;Qty;Buy\n" + "\n".join(rows) + f"\n;Total;;18\n{isbn_of(20)};x;3\n"
     desk = site.begin()
@@ -242,7 +242,7 @@ def tables(site: PlainSite, browser: Browser) -> Iterator[Outcome]:
 
 
 def till(site: PlainSite, browser: Browser) -> Iterator[Outcome]:
-    """A till's export of thirty lines, of which three are wrong, by the keyboard alone, to three files."""
+    """A till's export of thirty lines, three of them wrong, becomes three files by keyboard alone."""
     numbers = range(30)
     copies = {number: number % 5 + 1 for number in numbers}
     rows = [f"{isbn_of(number)};Title {number};{40 + number};{copies[number]}" for number in numbers]
@@ -259,7 +259,7 @@ def till(site: PlainSite, browser: Browser) -> Iterator[Outcome]:
         keys.count += 1
         paste(browser, "EAN;Titel;Bestand;Vorschlag\n" + "\n".join(rows))
         keys.press("1", Keys.TAB, "4", Keys.TAB, Keys.ENTER)
-        # The first of the wrong lines is struck out, the second one gets its copies, the third one is struck out.
+        # Of the wrong lines, the first is struck out, the second gets its copies, the third is struck out.
         keys.press(Keys.TAB, Keys.ENTER, "2", Keys.ENTER, Keys.TAB, Keys.ENTER)
         copies[12] = 2
         ordered = [number for number in numbers if number not in (7, 20)]
@@ -287,7 +287,7 @@ def till(site: PlainSite, browser: Browser) -> Iterator[Outcome]:
 def files_of(
     files: dict[str, list[list[str]]], numbers: list[int], copies: dict[int, int], order: str
 ) -> Iterator[Outcome]:
-    """What each wholesaler's file has of those books."""
+    """Each wholesaler's file of those books."""
     yield Outcome("till: a file for each wholesaler", sorted(files), sorted(WHOLESALERS))
     for series, (_, *rows) in files.items():
         wanted = []
@@ -302,7 +302,7 @@ def files_of(
 
 
 def to_check(site: PlainSite, browser: Browser) -> Iterator[Outcome]:
-    """What a person has to look at is counted and filtered; a wholesaler whose messages are missing is confirmed once."""
+    """What a person has to check is counted and filtered; a wholesaler with missing messages is confirmed once."""
     desk = site.begin()
     fill_for_checks(desk)
     numbers = [0, 1, 4, 9001, 9002, 9003, 9004, 9005, 9006]
@@ -361,7 +361,7 @@ def fill_for_checks(desk: ListDesk) -> None:
 
 
 def changed(site: PlainSite, browser: Browser) -> Iterator[Outcome]:
-    """Each book is asked for once more before an order leaves the page: where one has changed, nothing is saved."""
+    """Each book is asked for once more before an order leaves the page: if one has changed, nothing is saved."""
     desk = site.begin()
     with tempfile.TemporaryDirectory() as name:
         save_to(browser, name)
@@ -400,7 +400,7 @@ def changed(site: PlainSite, browser: Browser) -> Iterator[Outcome]:
 
 
 def twice(site: PlainSite, browser: Browser) -> Iterator[Outcome]:
-    """That this list was saved is told; no other order has the name of its file, nor the next one its reference."""
+    """The page says that this list was saved; no other order has its file name, nor the next one its reference."""
     site.begin()
     with tempfile.TemporaryDirectory() as name:
         save_to(browser, name)
@@ -429,7 +429,7 @@ def twice(site: PlainSite, browser: Browser) -> Iterator[Outcome]:
 
 
 def password(site: PlainSite, browser: Browser) -> Iterator[Outcome]:
-    """A password that is no longer right is told while an order is saved, and the list stays as it is."""
+    """A password that is no longer right is reported while an order is saved, and the list stays as it is."""
     site.begin()
     open_list(browser, f"{isbn_of(0)} 2\n{isbn_of(1)} 2\n")
     looked_up(browser, 2)
@@ -444,7 +444,7 @@ def password(site: PlainSite, browser: Browser) -> Iterator[Outcome]:
 
 
 def long_list(site: PlainSite, browser: Browser) -> Iterator[Outcome]:
-    """Five hundred books: how long they take, and whether the page hears a key meanwhile."""
+    """Five hundred books: how long they take, and whether the page responds to keys meanwhile."""
     site.begin()
     open_list(browser)
     browser.call("noteBlocks")
@@ -455,7 +455,7 @@ def long_list(site: PlainSite, browser: Browser) -> Iterator[Outcome]:
     blocks = browser.run("return window.blocks")
     longest = max(blocks, default=0)
     name = f"500 books: {seconds:.1f} seconds, {len(blocks)} blocks, the longest {longest:.0f} ms, {load()}"
-    # What a busy machine takes decides nothing.
+    # The time on a busy machine decides nothing.
     yield Outcome(name, browser.count("#list tbody tr"), 500)
     wanted = sum((offer_amount(number) * (number % 9 + 1) for number in range(500)), Decimal(0))
     yield Outcome("500 books: their sum", money(wanted) in browser.text("#list-bar-words"), True)

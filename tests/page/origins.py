@@ -1,4 +1,4 @@
-"""What the web server lets through to the desk, and what another site makes a buyer's browser send."""
+"""What the web server passes to the desk, and what another site makes a buyer's browser send."""
 
 import contextlib
 import socket
@@ -18,7 +18,7 @@ from tests.running import Outcome
 PRICE = f"/desk/articles/{ISBN}/price?day=20250410&country=GB&currency=GBP&type=02"
 GAPS = "/desk/series/north/gaps"
 
-# A field of a head, by its name and value.
+# A header field, by name and value.
 Field = tuple[str, str]
 
 DOCUMENT = [("Sec-Fetch-Mode", "navigate"), ("Sec-Fetch-Dest", "document")]
@@ -31,7 +31,7 @@ def from_site(site: str, *fields: Field) -> list[Field]:
 
 
 def policies(site: Site) -> list[tuple[str, str, list[Field], int]]:
-    """Requests with their fields, and the status that each is to have."""
+    """Requests with their fields, and the expected status of each."""
     own = site.address("")
     return [
         ("GET", GAPS, [], 200),
@@ -81,7 +81,7 @@ def policies(site: Site) -> list[tuple[str, str, list[Field], int]]:
     ]
 
 
-# Those that go through to the desk, by what the desk then writes.
+# Those that reach the desk, by what it then writes.
 THROUGH = ["200"] * 5 + ["404"]
 
 
@@ -133,7 +133,7 @@ POLICY = {
 
 
 def reply_fields(site: Site, browser: Browser) -> Iterator[Outcome]:
-    """A browser asks before it takes a file that it has kept, and keeps no answer."""
+    """A browser asks before it uses a file that it kept, and keeps no answer."""
     for path, cache in [
         ("/", "no-cache"),
         ("/desk.json", "no-cache"),
@@ -154,7 +154,7 @@ def reply_fields(site: Site, browser: Browser) -> Iterator[Outcome]:
 
 
 def slow_client(site: Site, browser: Browser) -> Iterator[Outcome]:
-    """A buyer who sends a head byte by byte, or takes no reply, does not hold the desk."""
+    """A buyer who sends a head byte by byte, or takes no reply, does not hold up the desk."""
     context = ssl._create_unverified_context()
     before = site.mark()
     with contextlib.ExitStack() as opened:
@@ -186,7 +186,7 @@ def strangers_site(text: str) -> Iterator[str]:
 
 
 def page(name: str, **given: str) -> str:
-    """A stranger's page with what is given."""
+    """A stranger's page with this content."""
     return Template(Path(__file__).with_name(f"{name}.html").read_text(encoding="utf-8")).substitute(given)
 
 

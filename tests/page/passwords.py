@@ -25,12 +25,12 @@ def without(site: Site, browser: Browser) -> Iterator[Outcome]:
     yield Outcome("without its password nothing comes to the desk", site.lines_since(before), [])
 
 
-# The lines that make the file, in both places that tell them.
+# The lines that make the file, in both documents that have them.
 README = ROOT / "examples/page/README.md"
 FILE = "/etc/nginx/onixdesk.passwords"
 
-# Behind it stands the password, where nobody is to be asked for it. Each request is hashed anew: with the rounds of
-# openssl's own choice that takes nginx three times as long.
+# The password is filled in where the command would ask for it. nginx hashes each request anew: with openssl's own
+# number of rounds that takes three times as long.
 SALT = '-salt "rounds=1000\\$$(openssl rand -hex 8)"'
 is_cheap = re.compile(r"\$6\$rounds=1000\$([0-9a-f]{16})\$[./0-9A-Za-z]{86}").fullmatch
 
@@ -41,7 +41,7 @@ def lines_for_file() -> list[str]:
 
 
 def password_file(site: Site, browser: Browser) -> Iterator[Outcome]:
-    """As the README makes it: the server alone may read it from the first moment, and buyers are added."""
+    """As the README makes it: only the server may read it from the first moment, and buyers are added."""
     folder = site.room.path("etc")
     folder.mkdir()
     path = folder / "passwords"

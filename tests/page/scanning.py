@@ -1,4 +1,4 @@
-"""A scanner, which types as a keyboard does."""
+"""A scanner, which types like a keyboard."""
 
 import time
 
@@ -8,8 +8,7 @@ KEYS = {"\n": ("Enter", 13, "\r"), "\t": ("Tab", 9, "")}
 
 
 def scan(browser: Browser, text: str, begun: float | None = None) -> None:
-    """Types a text as a scanner does, five milliseconds a key from a time on, whatever else the machine does
-    meanwhile."""
+    """Types a text like a scanner, five milliseconds a key from a time on, whatever else the machine does."""
     begun = begun or time.time()
     for at, sign in enumerate(text):
         key, code, typed = KEYS.get(sign, (sign, ord(sign), sign))

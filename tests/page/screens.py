@@ -1,5 +1,5 @@
-"""Each view on wide and narrow screens, by day and by night: nothing beyond the window, no weak text, no small target, no
-control without a name."""
+"""Each view on wide and narrow screens, by day and by night: nothing beyond the window, no weak text, no small target,
+no control without a name."""
 
 import contextlib
 from collections.abc import Callable, Iterator
@@ -87,7 +87,7 @@ def screens(site: PlainSite, browser: Browser) -> Iterator[Outcome]:
 
 
 def first_sight(site: PlainSite, browser: Browser) -> Iterator[Outcome]:
-    """On a phone, and at twice the size, the answer begins within the window's first half."""
+    """On a phone, and at twice the size, the answer begins in the upper half of the window."""
     for width, height in ((390, 844), (640, 450)):
         browser.size(width, height)
         show_article(site, browser)

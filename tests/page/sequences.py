@@ -1,4 +1,4 @@
-"""Cases that are tried one after the other at one site."""
+"""Cases that run one after the other at one site."""
 
 import os
 import tempfile
@@ -21,7 +21,7 @@ Check = Callable[[Any, Any], Iterator[Outcome]]
 
 
 class Sequence(NamedTuple):
-    """Cases at one site, by their functions; `is_plain` where the site is the page before a stand-in for the desk."""
+    """Cases at one site, by their functions; `is_plain` if the site is the page before a stand-in for the desk."""
 
     name: str
     cases: abc.Sequence[Check]
@@ -37,7 +37,7 @@ SEQUENCES = [
 
 
 class Group(Cases):
-    """Cases at the site of their sequence, which is put up before."""
+    """Runs cases at the site of their sequence, which is put up before."""
 
     def __init__(self, check: Check, is_plain: bool) -> None:
         super().__init__(check.__name__, check.__module__)
@@ -72,7 +72,7 @@ def try_at_a_site(program: Path, groups: list[Group], case: str) -> Counted:
 
 
 def chosen_groups(sequences: list[Sequence], chosen: Chosen) -> list[list[Group]]:
-    """The groups of each sequence that are chosen, without sequences of none."""
+    """The chosen groups of each sequence, without empty sequences."""
     found = [[Group(check, sequence.is_plain) for check in sequence.cases] for sequence in sequences]
     kept = [[group for group in groups if chosen.has(group)] for groups in found]
     return [groups for groups in kept if groups]

@@ -9,7 +9,7 @@ from tests.running import Outcome
 
 
 def answered(site: Site, browser: Browser) -> Iterator[Outcome]:
-    """What the real desk answers is understood, in each view."""
+    """The page understands the real desk's answers, in each view."""
     browser.complaints()
     browser.open(article())
     came = browser.wait_for_text("#article-status", "North Books").splitlines()[0]
@@ -34,7 +34,7 @@ def answered(site: Site, browser: Browser) -> Iterator[Outcome]:
 
 
 def stopped(site: Site, browser: Browser) -> Iterator[Outcome]:
-    """A desk that is stopped, and a web server that is, are told; the page goes on by itself."""
+    """The page reports a stopped desk and a stopped web server, and goes on by itself."""
     browser.open("")
     site.stop_desk()
     browser.run("location.hash = arguments[0]", article())

@@ -1,5 +1,5 @@
-"""The site as a shop puts it up: the page and `examples/page/nginx.conf` by a real nginx, with the real
-program over a file behind it."""
+"""The site as a shop puts it up: the page and `examples/page/nginx.conf` by a real nginx, before the real program over
+a file."""
 
 import base64
 import contextlib
@@ -28,10 +28,10 @@ PASSWORD = "a-word-to-pass"
 CONNECTIONS = 100_000
 DATABASE = "shop.db"
 
-# A browser that is driven opens more pages a second than a shop's buyers do.
+# A driven browser opens more pages a second than a shop's buyers do.
 RATES = ("rate=100r/s", "rate=10000r/s")
 
-# The desk's line for a request that nothing else of the tests makes.
+# The desk's line for a request that no other test makes.
 MARK = "501"
 
 MAIN = """
@@ -65,7 +65,7 @@ Server = subprocess.Popen[bytes]
 
 
 class NotStarted(Exception):
-    """A server ended at once, as where another program has its port, or does not listen in time."""
+    """A server ended at once, as when another program has its port, or does not listen in time."""
 
 
 def wait_until(holds: Callable[[], bool], server: Server | None) -> None:
@@ -121,7 +121,7 @@ class Site:
         self.room.write("nginx.conf", MAIN.format(user=user, folder=folder).encode())
 
     def configure(self) -> None:
-        """Writes the example, with the places and ports of the test in it, and with another rate of requests."""
+        """Writes the example, with the test's places and ports, and with another rate of requests."""
         folder = self.room.folder
         text = (ROOT / "examples/page/nginx.conf").read_text(encoding="utf-8")
         for written, here in [
@@ -175,13 +175,13 @@ class Site:
             self.desk.wait()
 
     def desk_lines(self) -> list[str]:
-        """What `serve` has written: one line for each connection."""
+        """The lines of `serve`: one for each connection."""
         path = self.room.path("lines")
         return path.read_text().splitlines() if path.exists() else []
 
     def mark(self) -> int:
-        """How many lines there are once the desk has served all that came before: it serves one
-        connection after the other, and the last of these lines is that of a request made here."""
+        """How many lines there are once the desk has served all that came before: it serves one connection after the
+        other, and the last of these lines is that of a request made here."""
         marks = self.desk_lines().count(MARK)
         with connected(self.desk_port) as peer:
             peer.sendall(b"GET / HTTP/1.1\r\nTransfer-Encoding: chunked\r\n\r\n")
@@ -195,11 +195,11 @@ class Site:
         return [line for line in self.desk_lines()[mark:end] if line != MARK]
 
     def requests(self) -> list[str]:
-        """What nginx was asked: each line has the status, the method, the host and the target."""
+        """The requests to nginx: each line has the status, the method, the host and the target."""
         return self.room.path("access.log").read_text().splitlines()
 
     def ask_desk(self, target: str) -> dict[str, Any]:
-        """The body of the desk's own reply, past nginx."""
+        """The body of the desk's own reply, without nginx."""
         with connected(self.desk_port) as peer:
             peer.sendall(f"GET {target} HTTP/1.1\r\n\r\n".encode())
             reply = receive(peer)
@@ -246,7 +246,7 @@ class Site:
 
 
 def started(room: Room) -> Site:
-    """A site with both servers, at ports that no other program has."""
+    """A site with both servers, at free ports."""
     tries = 0
     while True:
         site = Site(room)
@@ -263,7 +263,7 @@ def started(room: Room) -> Site:
 
 @contextlib.contextmanager
 def running(room: Room) -> Iterator[Site]:
-    """A site with both servers, over the database that the folder has."""
+    """A site with both servers, over the database in the folder."""
     site = started(room)
     try:
         yield site

@@ -1,4 +1,4 @@
-"""The real desk that the page is tried on: the week of the shop, and later messages of one of its wholesalers."""
+"""The real desk for trying the page: the week of the shop, and later messages of one of its wholesalers."""
 
 from tests.page.site import DATABASE
 from tests.program.room import Room
@@ -27,6 +27,6 @@ def fill(room: Room) -> None:
 
 
 def article(isbn: str = ISBN, **given: str) -> str:
-    """The address of the article view: the shop's questions of the week, unless other ones are given."""
+    """The address of the article view: the shop's questions of the week, unless others are given."""
     asked = {"isbn": isbn, "day": "2025-04-10", "country": "GB", "currency": "GBP", "type": "02"} | given
     return "#article?" + "&".join(f"{name}={value}" for name, value in asked.items())

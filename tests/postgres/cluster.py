@@ -1,4 +1,4 @@
-"""A cluster of PostgreSQL in a folder of its own, which is reached by a socket there alone."""
+"""A cluster of PostgreSQL in a folder of its own, reached only by a socket there."""
 
 import contextlib
 import os
@@ -24,7 +24,7 @@ class Cluster:
         self.folder = folder
 
     def run(self, name: str, *words: Word) -> None:
-        """Runs one of its programs, which none runs as root."""
+        """Runs one of its programs, none of them as root."""
         to_user = ["runuser", "-u", "postgres", "--"] if os.geteuid() == 0 else []
         done = subprocess.run(
             [*to_user, self.programs / name, *words],
@@ -38,7 +38,7 @@ class Cluster:
 
     def start(self) -> None:
         self.run("initdb", *"--pgdata data --auth trust --encoding UTF8 --no-locale --username".split(), USER)
-        # Nothing of it is to outlast the machine.
+        # Nothing in it has to survive the machine.
         options = f"-c listen_addresses= -c unix_socket_directories={self.folder} -c fsync=off"
         self.run("pg_ctl", "--pgdata", "data", "--log", "server.log", "--wait", "--options", options, "start")
 
@@ -46,7 +46,7 @@ class Cluster:
         self.run("pg_ctl", "--pgdata", "data", "--mode", "immediate", "stop")
 
     def words(self, database: str) -> str:
-        """The words by which libpq finds a database of it."""
+        """The words by which libpq finds one of its databases."""
         return f"host={self.folder} user={USER} dbname={database}"
 
     def connect(self, database: str = "postgres") -> Connection:
@@ -68,7 +68,7 @@ def started(programs: Path) -> Iterator[Cluster]:
         shutil.chown(folder, "postgres", "postgres")
     folder.chmod(0o755)
     cluster = Cluster(programs, folder)
-    # So that the cluster ends with whoever is told to end.
+    # So that the cluster ends with the process that is told to end.
     signal.signal(signal.SIGTERM, lambda number, _: sys.exit(128 + number))
     try:
         cluster.start()

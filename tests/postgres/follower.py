@@ -1,4 +1,4 @@
-"""Runs of bin/desk-follow, and what the database and the desk's file hold then."""
+"""Runs of bin/desk-follow, and the contents of the database and the desk's file after them."""
 
 import sqlite3
 from collections.abc import Callable
@@ -40,7 +40,7 @@ def execute(database: str, statements: str) -> None:
 
 
 def state_of(call: Callable[[], object]) -> str | None:
-    """The SQLSTATE of what the database refuses; nothing where it does it."""
+    """The SQLSTATE with which the database refuses it; None if it does not."""
     try:
         call()
     except psycopg2.Error as error:
@@ -49,7 +49,7 @@ def state_of(call: Callable[[], object]) -> str | None:
 
 
 def in_postgres(database: str) -> Tables:
-    """The rows of each table at one moment, since psql may outlive who started it; nothing where there is no schema."""
+    """The rows of each table at one moment, since psql may outlive its parent; None without a schema."""
     with closing(psycopg2.connect(database)) as connection, connection.cursor() as cursor:
         connection.set_session(isolation_level="REPEATABLE READ")
         cursor.execute("SELECT FROM pg_namespace WHERE nspname = 'desk'")

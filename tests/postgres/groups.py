@@ -26,7 +26,7 @@ class OverCluster(Group):
 
 
 def groups() -> list[OverCluster]:
-    """One for each function over the cluster and a room, and one for each seed of questions."""
+    """A group for each function over the cluster and a room, and for each seed of questions."""
     checks = [(module, *each) for module in MODULES for each in checks_of(module, Cluster, Room)]
     checks += [(questions, *each) for each in questions.GROUPS]
     return [OverCluster(module.__name__, name, check) for module, name, check in checks]

@@ -1,4 +1,4 @@
-"""20,000 seeded questions to seeded desks: what the functions answer is what the desk answers, line by line."""
+"""20,000 seeded questions to seeded desks: the functions answer what the desk answers, line by line."""
 
 import csv
 import re
@@ -42,7 +42,7 @@ DAYS = {"AskPrice": 1, "AskChoice": 1, "AskCalendar": 2, "AskGaps": 0}
 
 HEADS = {"price", "choice", "calendar", "gaps", "refused"}
 
-# The SQLSTATEs of values that a type refuses: no such day, no number, outside a domain, and beyond its numbers.
+# The SQLSTATEs of values that a type refuses: no such day, no number, outside a domain, out of range.
 MALFORMED = {"22007", "22008", "22P02", "23514", "23502", "22003"}
 
 
@@ -63,12 +63,12 @@ def texts(row: Iterable[object]) -> list[str]:
 
 
 def day_of(text: str) -> str:
-    """A day as SQL has it; what is no eight digits is left to be refused."""
+    """A day in SQL; what is not eight digits is left to be refused."""
     return f"{text[:4]}-{text[4:6]}-{text[6:]}" if re.fullmatch("[0-9]{8}", text) else f"no day {text}"
 
 
 def written(name: str, fields: list[str], rows: list[Row]) -> list[list[str]]:
-    """The records of the desk's answer that the rows of a function are."""
+    """The records of the desk's answer that the rows of a function stand for."""
     article = fields[0]
     if name == "AskPrice":
         return [["price", article, str(len(rows))], *(["offer", *texts(row)] for row in rows)]
@@ -123,7 +123,7 @@ def differences(room: Room, database: str, questions: list[str]) -> list[Row]:
 
 
 def kinds(questions: list[str], room: Room) -> list[str]:
-    """What kinds of answers the questions have."""
+    """Which kinds of answers the questions have."""
     return ["/".join(record[0] for record in answer[:2]) for answer in desk_answers(room, questions)]
 
 

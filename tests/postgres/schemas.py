@@ -14,7 +14,7 @@ from tests.program.room import Ran, Room
 from tests.running import Outcome
 from tools.words import sought
 
-# All that is not in the schema, with who may use it.
+# Everything outside the schema, with who may use it.
 ELSEWHERE = """\
 SELECT 'schema', nspname::text, nspacl::text FROM pg_namespace WHERE nspname <> 'desk' AND nspname !~ '^pg_(toast_)?temp'
 UNION ALL SELECT 'relation', oid::regclass::text, relacl::text FROM pg_class
@@ -37,7 +37,7 @@ def of_others(cluster: Cluster, room: Room) -> Iterator[Outcome]:
             "commented",
             "CREATE SCHEMA desk; CREATE TABLE desk.own AS SELECT 'kept'; COMMENT ON SCHEMA desk IS 'the shop''s'",
         ),
-        # Whoever may make a schema can comment it as the follower does, and put a trigger there that it would run.
+        # Whoever can make a schema can comment it like the follower, and add a trigger that it would run.
         (
             "commented as desk-follow's",
             "CREATE ROLE stranger; CREATE SCHEMA desk AUTHORIZATION stranger;"
@@ -66,7 +66,7 @@ def elsewhere(cluster: Cluster, room: Room) -> Iterator[Outcome]:
 
 
 def depended_on(cluster: Cluster, room: Room) -> Iterator[Outcome]:
-    """What others have made of the tables goes on; another version's schema stays until somebody takes it away."""
+    """What others made on the tables goes on; another version's schema stays until somebody removes it."""
     database = cluster.make_database("depended")
     deliver(room, 1, agreement=AGREEMENT)
     follow(room, database)
@@ -88,7 +88,7 @@ GRANT USAGE ON SCHEMA desk TO "buyers of books"; GRANT SELECT ON ALL TABLES IN S
 
 
 def role_of_readers(cluster: Cluster, room: Room) -> Iterator[Outcome]:
-    """What a role is granted once it has behind each run."""
+    """What a role was granted once, it has after each run."""
     database = cluster.make_database("reading")
     deliver(room, 1, agreement=AGREEMENT)
     execute(database, 'CREATE ROLE "buyers of books" LOGIN')
@@ -131,7 +131,7 @@ def faults(cluster: Cluster, room: Room) -> Iterator[Outcome]:
 
 
 def moment(cluster: Cluster, room: Room) -> Iterator[Outcome]:
-    """The moment is that of the copy, and rules that change are followed."""
+    """The moment is that of the copy, and changed rules take effect."""
     database = cluster.make_database("moments")
     deliver(room, 1, agreement=AGREEMENT)
     began = time.time()

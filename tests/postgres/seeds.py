@@ -1,4 +1,4 @@
-"""Seeded desks and questions: few articles, many offers and prices that cover one another, all kinds of texts."""
+"""Seeded desks and questions: few articles, many offers and overlapping prices, all kinds of texts."""
 
 from pathlib import Path
 from random import Random

@@ -1,4 +1,4 @@
-"""The follower step by step, two at once, and a reader from before: what is there is the file's."""
+"""The follower step by step, two at once, and a reader from before: the tables are always those of the file."""
 
 import subprocess
 from collections.abc import Iterator
@@ -43,7 +43,7 @@ ASKED = "SELECT series, amount FROM desk.prices('9780000000000', '2025-03-01', '
 
 
 def snapshot_of_before(cluster: Cluster, room: Room) -> Iterator[Outcome]:
-    """A transaction whose snapshot is older than the tables is refused, and not told that there is nothing."""
+    """A transaction whose snapshot is older than the tables is refused, instead of finding nothing."""
     database = cluster.make_database("snapshots")
     deliver(room, 1, agreement=AGREEMENT)
     with closing(psycopg2.connect(database)) as connection, connection.cursor() as cursor:
@@ -63,7 +63,7 @@ def snapshot_of_before(cluster: Cluster, room: Room) -> Iterator[Outcome]:
 
 
 def several_series(cluster: Cluster, room: Room) -> Iterator[Outcome]:
-    """Held messages come and go, waivers, new series, deleted records: the rows are the file's each time."""
+    """Held messages come and go, waivers, new series, deleted records: the rows are always the file's."""
     database = cluster.make_database("series")
     for name, text in [
         ("agreed", AGREEMENT.decode()),

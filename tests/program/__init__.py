@@ -17,7 +17,7 @@ from typing import Any
 from tests.program.room import Group, Room
 from tests.running import Cases, Outcome
 
-# Begun first: of the first two a client is waited for, and the others have groups that take longest.
+# These start first: the first two wait for clients, and the others have the groups that take longest.
 FIRST = ["clients", "open_desks", "generated_feeds", "kills", "broken_streams"]
 
 
@@ -45,7 +45,7 @@ def needing(module: Any) -> list[Cases]:
 
 
 def groups() -> list[Cases]:
-    """The groups of all modules below this one that have some."""
+    """The groups of all modules below this one."""
     names = [module.name for module in pkgutil.walk_packages(__path__, f"{__name__}.") if not module.ispkg]
     names.sort(key=lambda name: (FIRST.index(last) if (last := name.rpartition(".")[2]) in FIRST else len(FIRST), name))
     modules: list[Any] = [importlib.import_module(name) for name in names]

@@ -1,5 +1,5 @@
-"""The desk in a database file: what its tables hold after a batch, as SQLite itself reads them, and
-databases that are refused or migrated."""
+"""The desk in a database file: its tables after a batch, as SQLite itself reads them, and databases that are refused or
+migrated."""
 
 import sqlite3
 from collections.abc import Iterator
@@ -17,14 +17,14 @@ DATABASE = "cases.db"
 
 FOLDER = TESTS / "databases"
 
-# The tables of version 1, the table that version 2 has beside them, and the rows of messages of a price.
+# The tables of version 1, the table that version 2 adds, and the rows of messages of a price.
 TABLES, MINIMUM, PRICED = (
     FOLDER.joinpath(f"{name}.sql").read_text(encoding="utf-8") for name in ("version-1", "version-2", "priced")
 )
 
 
 def execute(room: Room, statements: str, file: str = DATABASE) -> None:
-    """Executes statements in the database, which is made where it is missing."""
+    """Executes statements in the database, which is made if it is missing."""
     with closing(sqlite3.connect(room.path(file))) as connection:
         connection.executescript(statements)
 
@@ -130,7 +130,7 @@ REFUSED = [
     ),
     ("CREATE TABLE meta (title TEXT);", b"onixdesk: storage: unusable\n"),
     ("CREATE TABLE series (title TEXT);", b"onixdesk: storage: unusable\n"),
-    # What the desk deletes of its own tables would be deleted here too.
+    # What the desk deletes from its own tables would be deleted here too.
     (
         "CREATE TABLE shelf (s TEXT, r TEXT, FOREIGN KEY (s, r) REFERENCES record ON DELETE CASCADE);",
         b"onixdesk: storage: unusable\n",
@@ -147,7 +147,7 @@ def is_refused(statements: str, line: bytes, room: Room) -> Iterator[Outcome]:
 
 
 def is_opened_first(room: Room) -> Iterator[Outcome]:
-    """A database that is refused is found before what the command itself would meet."""
+    """A refused database is reported before anything that the command itself would meet."""
     statements, line = REFUSED[0]
     execute(room, statements)
     for words in "deliver absent.csv", "gaps North", "serve --port 1 --requests 1":
@@ -178,7 +178,7 @@ def migration_of_an_empty_file(room: Room) -> Iterator[Outcome]:
 
 
 def refused_migrations(room: Room) -> Iterator[Outcome]:
-    """That there is no database file to migrate is found before a bad rules file."""
+    """A missing database file for a migration is reported before a bad rules file."""
     came = room.run("--rules", "absent.toml", "migrate", given=UNREADABLE)
     wanted = Ran(2, b"", b"onixdesk: migrate needs --db\n")
     yield Outcome("migrate: no database", came, wanted)

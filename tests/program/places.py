@@ -1,5 +1,5 @@
-"""Where rooms are made: in memory, if there is enough of it, so that no case waits for a disk. What the programs write is
-synced there too, which takes no time; what a disk would keep behind a loss of power no test asks."""
+"""Where rooms are made: in memory, if there is enough of it, so that no case waits for a disk. Programs sync there too,
+which takes no time; no test depends on what a disk keeps after a loss of power."""
 
 import os
 from pathlib import Path
@@ -18,8 +18,8 @@ def available() -> int:
 
 
 def has_room(folder: Path, most: int) -> bool:
-    """Whether rooms can be made in a file system in memory: it takes so many bytes and runs programs, and the machine has
-    as many again for these."""
+    """Whether rooms can be in a file system in memory: it has room for so many bytes and runs programs, and the machine
+    has as much memory left again."""
     try:
         found = os.statvfs(folder)
     except OSError:
@@ -30,5 +30,5 @@ def has_room(folder: Path, most: int) -> bool:
 
 
 def usual() -> str | None:
-    """The folder in which rooms are made; none where it is that for temporary files, which TMPDIR may name."""
+    """The folder for rooms; None if it is that for temporary files, which TMPDIR may name."""
     return str(MEMORY) if "TMPDIR" not in os.environ and has_room(MEMORY, MOST) else None

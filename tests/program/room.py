@@ -1,4 +1,4 @@
-"""A folder of its own in which the program is run, and what is said of a case."""
+"""A folder of its own in which the program runs, and the result of a case."""
 
 import contextlib
 import os
@@ -16,13 +16,13 @@ from tools.words import Word
 
 Check = Callable[..., Iterator[Outcome]]
 
-# No run of a case takes a tenth of it, also on a machine that has much else to do; a program that hangs fails its case.
+# No run of a case takes a tenth of it, even on a busy machine; a program that hangs fails its case.
 SECONDS = 1200
 
 # The words before a text of Python that runs with what ships.
 WITHIN: list[Word] = ["env", f"PYTHONPATH={':'.join(PACKAGES)}", sys.executable, "-P", "-s", "-S", "-B", "-c"]
 
-# An input of which each read fails, as that of a folder does.
+# An input of which each read fails, like a folder's.
 UNREADABLE = None
 
 
@@ -34,7 +34,7 @@ class Ran(NamedTuple):
     errors: bytes = b""
 
 
-# A line on a refusal; and the line of a fault, behind which another one says why.
+# A line on a refusal; and the line of a fault, after which another one says why.
 MALFORMED = re.compile(
     rb"onixdesk: (?!rules: |terms: )(?:[^\n]*: )?(?:line|row) [0-9]+: |onixdesk: [0-9]+ more are malformed\n"
     rb"|onixdesk: without --db |onixdesk: refused,[a-z-]+: |onixdesk: bad-query: "
@@ -75,8 +75,8 @@ class Room:
         environment: Mapping[str, str] | None = None,
         folder: str = ".",
     ) -> Ran:
-        """How a program ends that is run in the room, and what it writes. Its input is bytes or an open file, whose
-        number is given, as is that of another output; the environment stands in place of this one."""
+        """How a program in the room ends, and what it writes. Its input is bytes or an open file, given by its number,
+        and so is another output; `environment` replaces this one."""
         with contextlib.ExitStack() as opened:
             text, stream = (given, None) if isinstance(given, bytes) else (None, given)
             if given is UNREADABLE:
@@ -95,8 +95,8 @@ class Room:
         return Ran(done.returncode, done.stdout or b"", done.stderr)
 
     def run(self, *words: Word | bytes, given: bytes | None = b"", is_full: bool = False) -> Ran:
-        """Runs the program on these words and this input; `is_full` gives it an output that takes nothing. The lines
-        that only say why are left out."""
+        """Runs the program on these words and this input; `is_full` gives it an output that takes nothing. Lines that
+        only say why are left out."""
         if not is_full:
             ran = self.call([self.program, *words], given)
         else:
@@ -109,7 +109,7 @@ class Room:
         return self.call([self.program, *words], given)
 
     def start(self, *words: Word, stdin: int = subprocess.DEVNULL) -> subprocess.Popen[bytes]:
-        """Starts the program, to be asked while it runs. SIGINT ends it also where a shell that runs the tests in the
+        """Starts the program, to be asked while it runs. SIGINT ends it even if a shell that runs the tests in the
         background has it ignored."""
         return subprocess.Popen(
             ["env", "--default-signal=INT", self.program, *words],
@@ -133,7 +133,7 @@ def needs(*programs: str) -> Callable[[Check], Check]:
 class Group(Cases):
     """Cases over a room of their own."""
 
-    # The program that is tested, and the folder in which rooms are made, or none for the usual one.
+    # The tested program, and the folder in which rooms are made, or None for the usual one.
     program = PROGRAM
     place: str | None = None
 

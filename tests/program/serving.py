@@ -1,4 +1,4 @@
-"""The desk over HTTP: a run of `serve`, its clients, and what stands in for it."""
+"""The desk over HTTP: a run of `serve`, its clients, and a stand-in for it."""
 
 import contextlib
 import http.server
@@ -11,16 +11,16 @@ from typing import NamedTuple
 from tests.program.room import SECONDS, Ran, Room, without_reasons
 from tools.ports import HOST as HOST, free_port as free_port
 
-# How often a port is looked for that no other program takes in the meantime.
+# How often to look for a port that no other program takes in the meantime.
 TRIES = 20
 
-# How many seconds a server goes on behind its end: it looks for that so often.
+# How many seconds a server goes on after its end: it looks for that so often.
 LOOK = 0.02
 
 
 class Exchange(NamedTuple):
-    """What a client sends, and what is replied: the status line behind its version, with the Allow line
-    where there is one, and the body."""
+    """What a client sends, and the reply: the status line without its version, the Allow line if there is one, and the
+    body."""
 
     name: str
     input: bytes
@@ -60,8 +60,8 @@ def connected(port: int) -> socket.socket:
 
 
 def send(peer: socket.socket, pieces: list[bytes], keeps_open: bool = False) -> None:
-    """Sends the pieces, and then closes this way of the connection. The desk may reply and close before
-    it has taken all of them."""
+    """Sends the pieces, and then closes this direction of the connection. The desk may reply and close before it has
+    taken all of them."""
     with contextlib.suppress(OSError):
         for piece in pieces:
             peer.sendall(piece)
@@ -87,7 +87,7 @@ class Serving:
         self.first_line = first_line
 
     def reply(self, pieces: list[bytes], keeps_open: bool = False) -> bytes:
-        """What is replied to a client that sends these pieces."""
+        """The reply to a client that sends these pieces."""
         with connected(self.port) as peer:
             send(peer, pieces, keeps_open)
             return receive(peer)
@@ -103,19 +103,18 @@ class Serving:
         return ran._replace(errors=without_reasons(ran.errors))
 
     def stopped(self) -> Ran:
-        """How a run that goes on ended, once it was told to."""
+        """How a run without a limit ended, once it was told to."""
         self.process.terminate()
         return self.ended()
 
     def wanted(self, lines: list[str], status: int = 0) -> Ran:
-        """How it is to end after connections with these lines."""
+        """The expected end after connections with these lines."""
         text = "".join(f"{line}\n" for line in [f"listening {self.port}", *lines])
         return Ran(status, text.encode())
 
 
 def started(room: Room, words: list[str], connections: int | None, more: Sequence[str] = ()) -> Serving:
-    """Starts `serve` for so many connections, or until it is stopped, on a port that no other program
-    has; `more` stands behind its own words."""
+    """Starts `serve` for so many connections, or until it is stopped, on a free port; `more` follows its own words."""
     requests = [] if connections is None else ["--requests", str(connections)]
     for _ in range(TRIES):
         port = free_port()
@@ -140,7 +139,7 @@ def serving(room: Room, words: list[str], connections: int | None, more: Sequenc
 
 
 class StandIn(http.server.BaseHTTPRequestHandler):
-    """A server that replies to GET and POST as those that are made of it say."""
+    """A server whose handlers for GET and POST decide the replies."""
 
     kind = "application/json"
 
@@ -148,7 +147,7 @@ class StandIn(http.server.BaseHTTPRequestHandler):
         self.send_response(status)
         self.send_header("Content-Type", self.kind)
         self.send_header("Content-Length", str(len(body)))
-        # Who asks may have left.
+        # The client may have left.
         with contextlib.suppress(BrokenPipeError, ConnectionResetError):
             self.end_headers()
             self.wfile.write(body)
@@ -162,8 +161,8 @@ class StandIn(http.server.BaseHTTPRequestHandler):
 
 @contextlib.contextmanager
 def standing_in(handler: type[StandIn], port: int = 0) -> Iterator[int]:
-    """A server that replies so, at the port that is given: this one, or one that no other program has. Who asks has one
-    connection at a time; a thread for each would take twice what a reply does."""
+    """A server that replies so, on the given port or a free one. A client has one connection at a time; a thread for
+    each would take twice as long as a reply."""
     with http.server.HTTPServer((HOST, port), handler) as server:
         thread = threading.Thread(target=server.serve_forever, args=[LOOK])
         thread.start()

@@ -22,7 +22,7 @@ class Written(NamedTuple):
 
 
 def headed(text: str) -> tuple[str, str]:
-    """A first line, and the text behind it, of which the last line end was taken off."""
+    """A first line, and the text after it, without its last line end."""
     head, is_there, behind = text.partition("\n")
     return head, f"{behind}\n" if is_there else ""
 
@@ -33,7 +33,7 @@ def read_case(text: str) -> Written:
 
 
 def read_file(path: Path) -> list[Written]:
-    """The cases of a file, with the line ends that it has."""
+    """The cases of a file, with its line ends."""
     _heading, *texts = path.read_bytes().decode().removesuffix("\n").split("\n== ")
     return [read_case(text) for text in texts]
 
@@ -44,5 +44,5 @@ def repeated(text: str) -> str:
 
 
 def unescaped(text: str) -> bytes:
-    """The bytes of a text with the escapes of Python."""
+    """The bytes of a text with Python's escapes."""
     return text.encode().decode("unicode_escape").encode("latin-1")

@@ -1,5 +1,5 @@
-"""A shop of the tests whose desk is two files: a database with the tables that say what the desk was told, asked by a
-stand-in of its program, served by the desk of the tests once its unit is started."""
+"""A shop of the tests whose desk is two files: a database whose tables say what the desk was told, asked by a stand-in
+of its program, and served by the tests' desk once its unit is started."""
 
 import contextlib
 import shutil
@@ -142,7 +142,7 @@ class Shop:
         self.write()
 
     def write(self) -> None:
-        """What the desk has is in its files."""
+        """The desk's contents are in its files."""
         if self.inbox.desk:
             write(self.inbox.desk, self.database)
 

@@ -77,7 +77,7 @@ class Series:
         return [[number, number] for number in numbers if number not in self.had]
 
     def catalogue(self) -> dict[str, Records]:
-        """The records by reference: that of the product, and those below it."""
+        """The records by reference: the product's, and those below it."""
         found: dict[str, Records] = {}
         for number in range(self.first, self.next):
             contents = self.had[number]
@@ -193,7 +193,7 @@ class FakeDesk:
         return ["waived", name, str(number)]
 
     def offers(self, isbn: str) -> list[tuple[str, str, str, str]]:
-        """Series, reference, availability and amount of the first price, of each record with that ISBN."""
+        """Series, reference, availability and amount of the first price, for each record with that ISBN."""
         found = []
         for name, series in sorted(self.series.items()):
             for reference, records in sorted(series.catalogue().items()):

@@ -1,4 +1,4 @@
-"""A machine whose files are real, and whose desk, program and clock are the tests'; with faults at each of its calls."""
+"""A machine with real files, and the tests' desk, program and clock; with faults at each of its calls."""
 
 import contextlib
 import io
@@ -17,7 +17,7 @@ from tests.shop.fake_desk import FakeDesk
 
 
 class Killed(BaseException):
-    """The program is gone, here."""
+    """The program is killed here."""
 
 
 class Disk:
@@ -33,7 +33,7 @@ class Disk:
         self.undo = [(each, undo) for each, undo in self.undo if each != folder]
 
     def lose_power(self, is_torn: bool) -> None:
-        """What is not synced is gone: of all folders, or, torn, of the one that changed first."""
+        """What is not synced is gone: in all folders, or, torn, in the one that changed first."""
         first = self.undo[0][0] if is_torn and self.undo else None
         for folder, undo in reversed(self.undo):
             if folder == (first or folder):
@@ -43,7 +43,7 @@ class Disk:
 
 
 def put_back(now: Path, before: Path) -> None:
-    """A name is as it was, unless somebody has it by now, whose file came behind."""
+    """A name is as it was, unless somebody has used it since for a later file."""
     if not before.exists():
         os.rename(now, before)
 
@@ -54,7 +54,7 @@ class ClosedOutput(io.StringIO):
 
 
 class FakeMachine(Machine):
-    """One run of a program: `fault` is what happens at which step, or at any without a name, and at the how many'th."""
+    """One run of a program: `fault` is what happens, at which step or at any, and at the how many'th."""
 
     def __init__(
         self, disk: Disk, desk: FakeDesk | None, clock: float, fault: tuple[str, str, int] = ("", "", 0)
@@ -64,7 +64,7 @@ class FakeMachine(Machine):
         self.desk = desk
         self.clock = clock
         self.kind, *self.at = fault
-        # What somebody else does then, where the kind is `meanwhile`.
+        # What somebody else does then, if the kind is `meanwhile`.
         self.meanwhile: Callable[[], object] = lambda: None
         self.steps: Counter[str] = Counter()
         self.is_dead = False
@@ -79,7 +79,7 @@ class FakeMachine(Machine):
         return self.steps[""]
 
     def step(self, what: str) -> None:
-        """Before and behind each call: the fault, where it is its turn."""
+        """Before and after each call: the fault, when it is due."""
         if self.is_dead:
             raise Killed
         self.steps.update([what, ""])
@@ -110,7 +110,7 @@ class FakeMachine(Machine):
 
     def entry(self, path: Path) -> Entry:
         found = super().entry(path)
-        # The tests set times of files, and nobody can set the one by which the machine knows a change.
+        # The tests set times of files, but nobody can set the one by which the machine sees a change.
         return found._replace(changed=found.modified)
 
     def copy(self, source: Path, target: Path) -> str:
@@ -181,7 +181,7 @@ class FakeMachine(Machine):
             super().tell(priority, line)
 
     def close_output(self) -> None:
-        """Nobody takes it any more."""
+        """Nobody reads it any more."""
         self.errors = ClosedOutput()
 
     def write(self, text: str) -> None:

@@ -1,4 +1,4 @@
-"""The program's commands over feeds of the tests: an object of JSON in place of XML."""
+"""The program's commands over feeds of the tests: a JSON object instead of XML."""
 
 import json
 import zlib
@@ -41,7 +41,7 @@ def message_of(number: int, products: list[Records], sent: str = "", sender: Seq
 
 
 def ended(words: list[str], text: bytes) -> Ended:
-    """How a run of the program, or of what reads titles, ends."""
+    """How a run of the program, or of the reader of titles, ends."""
     if "convert" in words:
         return convert(text, words)
     if "check" in words or "batch" in words:

@@ -27,8 +27,8 @@ AGREEMENT = f"Agree,{SERIES},{','.join(SENDER)},,,1\n"
 
 
 class ProgramMachine(FakeMachine):
-    """A machine on which the built program converts, checks and answers, in place of the tests' one. The desk's answers to
-    questions are the program's too, over what the desk has taken."""
+    """A machine on which the built program converts, checks and answers, instead of the tests' one. It also answers the
+    desk's questions, over what the desk has taken."""
 
     def __init__(self, places: Places, *words: Any) -> None:
         super().__init__(*words)
@@ -68,7 +68,7 @@ class FakeInbox:
         self.lines: list[tuple[int, str]] = []
 
     def begin_desk(self, addressee: tuple[str, str] = ("", ""), first: int = 1) -> None:
-        """A desk takes the place of another one, which has nothing but the agreement."""
+        """A desk replaces another one, and has only the agreement."""
         self.desk = FakeDesk()
         self.desk.series[SERIES] = Series((*SENDER, *addressee), first)
 
@@ -94,7 +94,7 @@ class FakeInbox:
         return ProgramMachine(self.places, *words) if self.program else FakeMachine(*words)
 
     def send(self, name: str, data: bytes | str, time: float | None = None) -> None:
-        """A file comes, a minute after the last thing that happened, or with a time of its server's."""
+        """A file comes, a minute after the last event, or with a time of its server."""
         self.clock += 60
         path = self.incoming / name
         path.write_bytes(data if isinstance(data, bytes) else data.encode())
@@ -129,7 +129,7 @@ class FakeInbox:
         return machine.written
 
     def decide(self, what: str, name: str) -> str:
-        """What is said as a person decides on the last file of a name, or of a state."""
+        """What a person's decision on the last file of a name, or in a state, says."""
         query = "SELECT max(id) FROM file WHERE ? IN (name, state)"
         return self.says(lambda each: decide.decide(each, what, each.ledger.file(each.ledger.value(query, name)).mark))
 

@@ -1,5 +1,5 @@
-"""The inbox as a state machine: whatever comes, breaks or is put back, the desk has what a plain list of first deliveries in
-order gives, no number has two texts, and nothing that was taken is lost or waits unseen."""
+"""The inbox as a state machine: whatever comes, breaks or is restored, the desk has what a plain list of first
+deliveries in order gives, no number has two texts, and nothing that was taken is lost or waits unseen."""
 
 import functools
 import json
@@ -33,10 +33,10 @@ from tests.shop.inboxes import SERIES, FakeInbox
 
 FAULTS = ("error", "kill", "power", "torn", "signal")
 STEPS = "copy copied rename renamed remove removed sync synced write written begin commit committed batch child".split()
-# A lost answer of the desk is tried as often as all else.
+# A lost answer of the desk is tried as often as all other faults.
 STEPS += ["answered"] * len(STEPS)
 
-# Amid which a file may be written over.
+# Calls amid which a file may be overwritten.
 INTAKE = "copy copied rename renamed synced committed remove removed answered".split()
 
 NUMBERS = range(1, 6)
@@ -55,17 +55,17 @@ class Sent:
     time: float
     is_whole: bool
     number: int | None
-    # Whether it may have come behind files of a later time.
+    # Whether it may have come after files with a later time.
     is_late: bool = False
     is_rejected: bool = False
-    # The text that it had as a person refused it: it is not posted from then on. (Parts of several feeds may be alike.)
+    # Its text when a person refused it: from then on it is not posted. (Parts of several feeds may be the same.)
     refused: set[bytes] = field(default_factory=set)
     is_let_in: bool = False
-    # Whether a desk was seen without it, since a person refused it.
+    # Whether a desk was seen without it after a person refused it.
     is_gone: bool = False
     # Whether a desk was corrected by it: then desk-restore takes no copy that has it.
     is_taken_out: bool = False
-    # Whether a desk had it that is here or in a copy, as an older ledger was put back.
+    # Whether a desk here or in a copy had it when an older ledger was restored.
     was_had: bool = False
     # Whether the machine with its bytes is gone.
     is_lost: bool = False
@@ -84,7 +84,7 @@ def contents(data: bytes, parts: int, terms: bytes | None) -> tuple[Contents, ..
 
 
 def products_of(sent: Sent) -> list[tuple[str, str]]:
-    """The products of a feed, in its order, which is that of the contents."""
+    """The products of a feed, in order, which is that of the contents."""
     return [*json.loads(sent.data)["products"].items()]
 
 
@@ -106,14 +106,14 @@ class Model(RuleBasedStateMachine):
         self.inbox = FakeInbox(self.folder, words=("--parts", str(parts)), number=number, leave=leave, full=full)
         self.is_next, self.parts = number == NEXT, parts
         self.copies = [self.desk.copy()]
-        # Of the ledger, and what was known then.
+        # The ledger's, and what was known then.
         self.ledgers: list[Path] = []
         self.known: list[Any] = []
         self.sent: dict[str, Sent] = {}
         self.waived: set[int] = set()
         self.ever: dict[int, Contents] = {}
         self.unsure: set[int] = set()
-        # The numbers that were waived at the desk by a person, who waives them again where it is restored.
+        # The numbers that a person waived at the desk, and waives again after a restore.
         self.by_hand: set[int] = set()
         # What was judged over another desk may look wrong beside what this one has.
         self.is_restored = False
@@ -125,14 +125,14 @@ class Model(RuleBasedStateMachine):
     # What comes
 
     def upload(self, name: str, data: bytes, is_whole: bool, number: int | None, is_late: bool = False) -> None:
-        """A wholesaler that overwrites its file before that is taken has sent nothing before: this one waits."""
+        """A wholesaler that overwrites its file before it is taken has sent nothing: this one waits."""
         if (self.inbox.incoming / name).exists():
             self.clean()
         is_new = is_whole and self.inbox.work(lambda inbox: self.is_refused(inbox, data))
         sent = self.put(name, data, is_whole, number, self.inbox.clock + 60 - (100_000 if is_late else 0))
         sent.is_late |= is_late or sent.is_lost
         if sent.is_lost or is_new and self.is_next:
-            # What was refused whole is a new file then, if nothing ends the run amid its copy.
+            # What was refused whole is a new file then, unless something ends the run amid its copy.
             time = (self.inbox.incoming / name).stat().st_mtime
             sent.time = time if is_new else sent.time
             sent.is_lost = False
@@ -150,7 +150,7 @@ class Model(RuleBasedStateMachine):
         is_kept = file and any("unknown-series" in row.answer for row in inbox.ledger.messages_of(file))
         return file is not None and file.state == "refused" and not inbox.ledger.is_final(file) and not is_kept
 
-    # Which of what there is: a number, so that the steps of a run can be made again as they are printed.
+    # Which one of those that exist: a number, so that the printed steps of a run can be repeated.
     some = st.integers(0, 11)
     names = st.sampled_from(["a.xml", "b.xml", "c d'.xml", "-e.xml", "f.onix"])
     prices = st.sampled_from(["1.00", "1.50", "1.70", "", "-"])
@@ -161,7 +161,7 @@ class Model(RuleBasedStateMachine):
     @rule(name=names, number=numbers, sent=moments, is_late=st.booleans(), products=small)
     def send(self, name: str, number: int, sent: str, is_late: bool, products: dict[str, str]) -> None:
         of_sender = None if self.is_next else number
-        # Other bytes of the same contents are a resend where the sender numbers its files, and else another file.
+        # Other bytes of the same contents are a resend if the sender numbers its files, and else another file.
         data = fake_program.feed_of(of_sender, products, sent="" if self.is_next else sent)
         self.upload(name, data, True, of_sender, is_late and self.is_next and digest_of(data) not in self.sent)
 
@@ -195,7 +195,7 @@ class Model(RuleBasedStateMachine):
         self.run()
         self.inbox.desk = desk
         assert not self.inbox.shown()["desk"]
-        # Bytes that came twice may be passed over once.
+        # Bytes that came twice may be skipped once.
         left = {digest_of(path.read_bytes()) for path in self.inbox.incoming.iterdir()}
         assert left <= {file.digest for file in self.inbox.files()}, self.inbox.lines
 
@@ -216,7 +216,7 @@ class Model(RuleBasedStateMachine):
     def run_with_upload(
         self, name: str, number: int, first: Any, products: Any, is_cut: bool, what: str, place: int
     ) -> None:
-        """Amid a run a file is written over, which may be taken by then, or it is whole from then on."""
+        """Amid a run a file is overwritten, which may be taken by then, or is complete from then on."""
         self.clean()
         of_sender = None if self.is_next else number
         data = fake_program.feed_of(of_sender, products, sent="")
@@ -233,8 +233,8 @@ class Model(RuleBasedStateMachine):
     @precondition(lambda self: bool(self.is_next))
     @rule(name=names, products=small, place=st.integers(1, 4))
     def run_with_waiver(self, name: str, products: dict[str, str], place: int) -> None:
-        """Amid a run somebody waives the last number of a feed at the desk, which has the feed's first half then, or not;
-        and later what is missing below."""
+        """Amid a run somebody waives the last number of a feed at the desk, which may have the feed's first half; and
+        later what is missing below."""
         self.clean()
         self.send(name, 1, "", False, products)
         self.run(("meanwhile", "batch", place), lambda _: self.waive_at_desk())
@@ -258,7 +258,7 @@ class Model(RuleBasedStateMachine):
     @rule()
     def copy(self) -> None:
         if self.unsure:
-            # A night's copy comes long after an older ledger was put back.
+            # A night's copy comes long after an older ledger was restored.
             self.clean()
         self.copies.append(self.desk.copy())
         target = self.folder / f"ledger-{len(self.ledgers)}"
@@ -319,7 +319,7 @@ class Model(RuleBasedStateMachine):
         self.replace_ledger(self.ledgers[which % len(self.ledgers)])
         with closing(sqlite3.connect(self.inbox.ledger)) as ledger:
             rejected = {digest for digest, in ledger.execute("SELECT digest FROM file WHERE state = 'rejected'")}
-        # What came since is converted with the terms of then, should a desk lack it too.
+        # What came since is converted with the terms of that time, if a desk lacks it too.
         numbers = (number for desk in self.desks() for number in desk.series[SERIES].had)
         self.unsure |= {0, *self.ever, *numbers}
         for sent in self.sent.values():
@@ -416,7 +416,7 @@ class Model(RuleBasedStateMachine):
     def run(
         self, fault: tuple[str, str, int] = ("", "", 0), meanwhile: Callable[[FakeMachine], object] | None = None
     ) -> None:
-        """One run, with a fault, or with what others do amid it, which ends none."""
+        """One run, with a fault, or with what others do amid it without ending it."""
         machine = FakeMachine(self.inbox.disk, self.inbox.desk, self.inbox.clock, fault)
         if meanwhile:
             machine.meanwhile = functools.partial(meanwhile, machine)
@@ -428,7 +428,7 @@ class Model(RuleBasedStateMachine):
 
     @rule()
     def clean(self) -> None:
-        """Nothing fails any more: two runs later all is as it should be, and nothing more is said of it."""
+        """Nothing fails any more: after two runs all is as it should be, and nothing more is said of it."""
         for _ in range(2):
             self.run()
         assert not self.inbox.run(), self.inbox.lines
@@ -448,7 +448,7 @@ class Model(RuleBasedStateMachine):
         whole = sorted((sent for sent in self.sent.values() if sent.is_whole), key=lambda sent: sent.time)
         judged = [sent for sent in whole if sent not in waiting]
         if self.is_next:
-            # What a file in quarantine keeps, since a later number is waived, waits for a person.
+            # A file in quarantine that keeps its number below a waived one waits for a person.
             kept = inbox.ledger.messages("file IN (SELECT id FROM file WHERE state = 'quarantined')")
             self.check_next(series, judged, {row.number for row in kept})
             if not self.is_restored:
@@ -460,7 +460,7 @@ class Model(RuleBasedStateMachine):
         self.check_full(inbox, series)
 
     def check_seen(self, files: list[File]) -> None:
-        """Each file that was sent has a row, its bytes are there, and what waits is counted."""
+        """Each sent file has a row, its bytes are there, and waiting files are counted."""
         assert {file.digest for file in files} == set(self.sent)
         first = min(((file.time, file.name, file.id) for file in files if file.state == "quarantined"), default=None)
         for file in files:
@@ -477,11 +477,11 @@ class Model(RuleBasedStateMachine):
         assert shown["desk"]
 
     def rejected(self) -> list[Contents | str | None]:
-        """The contents of all that a person refused."""
+        """The contents of everything that a person refused."""
         return [each for sent in self.sent.values() if sent.is_rejected for each in self.all_parts(sent)]
 
     def check_states(self, inbox: Inbox, files: list[File], series: Series) -> None:
-        """What is called taken the desk has, and what is called refused is not what it has."""
+        """The desk has what is called taken, and does not have what is called refused."""
         if self.unsure:
             return
         rejected = self.rejected()
@@ -496,20 +496,20 @@ class Model(RuleBasedStateMachine):
             if file.state == "refused" and sent.is_whole and not sent.is_lost:
                 numbers = {row.number for row in inbox.ledger.messages_of(file)}
                 assert not self.is_next or numbers & self.by_hand, file
-                # What came again while no series was agreed is refused until it is sent once more; and what another
-                # file of its number took a part over from, until a person dismisses it.
+                # A file that came again while no series was agreed is refused until it is sent once more; and one from
+                # which another file of its number took a part over, until a person dismisses it.
                 is_again = file.why == posting.REASONS["unknown-series"] and not numbers
                 is_taken_over = inbox.ledger.has_stood(file) and len(numbers) < self.parts
                 assert is_again or is_taken_over or not self.is_had(sent, series), file
 
     def is_had(self, sent: Sent, series: Series) -> bool:
-        """Whether the desk has a feed of that number with the same products, by whichever terms."""
+        """Whether the desk has a feed of that number with the same products, by any terms."""
         had = [bare(series.had.get(at)) for at in self.numbers_of(sent.number or 0)]
         others = [other for other in self.sent.values() if other.is_whole and other.number == sent.number]
         return any(self.fits(other, had) for other in others if products_of(other) == products_of(sent))
 
     def check_texts(self, series: Series) -> None:
-        """No number ever has two texts, but where a person refused the first."""
+        """No number ever has two texts, unless a person refused the first."""
         rejected = self.rejected()
         for number, had in series.had.items():
             if isinstance(had, str) or number in self.unsure:
@@ -519,7 +519,7 @@ class Model(RuleBasedStateMachine):
             self.ever[number] = had
 
     def may_be(self, sent: Sent, part: int) -> list[Contents | str | None]:
-        """What a part of a feed may be, by the tables of terms since it came."""
+        """The possible texts of a part of a feed, by the tables of terms since it came."""
         return [contents(sent.data, self.parts, terms)[part] for terms in sent.terms]
 
     def check_own(self, series: Series, judged: list[Sent], waiting: list[Sent], resent: list[Sent]) -> None:
@@ -536,7 +536,7 @@ class Model(RuleBasedStateMachine):
             stays += [sent for sent in others if products_of(sent) in refused]
             # Half of a feed that a person refused keeps others out, until it is corrected.
             is_kept_out = any(self.is_at(sent, series) for sent in stays)
-            # An older ledger does not know what was posted, or refused.
+            # An older ledger does not know what was posted or refused.
             stays += [sent for sent in [*candidates, *waiting] if sent.number == number and sent.was_had]
             for part, at in enumerate(self.numbers_of(number)):
                 right = self.may_be(standing, part) if standing else [None]
@@ -547,17 +547,17 @@ class Model(RuleBasedStateMachine):
                     right += [WAIVED, *(each for sent in candidates for each in self.may_be(sent, part))]
                 assert bare(series.had.get(at)) in right, (at, series.had.get(at), right)
             for sent in candidates:
-                # A ledger of before may not know that a person refused it.
+                # An older ledger may not know that a person refused it.
                 sent.is_gone |= sent.is_rejected and not self.is_at(sent, series) and not self.unsure
         assert set(series.had) <= self.waived | {at for number in NUMBERS for at in self.numbers_of(number)}
 
     def numbers_of(self, number: int) -> range:
-        """The desk's numbers of one of the sender's."""
+        """The desk's numbers for one of the sender's."""
         return range((number - 1) * self.parts + 1, number * self.parts + 1)
 
     def check_next(self, series: Series, judged: list[Sent], kept: set[int]) -> None:
-        """The contents by number are those of the files in order of their times, but for what a person let in later; what
-        a person refused is waived, or stays."""
+        """The contents by number are those of the files in order of their times, except for what a person let in later;
+        what a person refused is waived, or stays."""
         had = [bare(series.had[number]) for number in sorted(series.had)]
         assert {*range(1, max(series.had, default=0))} <= series.had.keys() | kept, series.had
         ordered = [sent for sent in judged if not sent.is_let_in]
@@ -578,11 +578,11 @@ class Model(RuleBasedStateMachine):
         assert all(sent.is_rejected for sent in [*ordered, *others]), (ordered, others)
 
     def fits(self, sent: Sent, group: list[Contents | str | None], is_waived: bool = False) -> bool:
-        """Whether a group has the contents of a feed, of which some parts may be waived."""
+        """Whether a group has the contents of a feed; some parts may be waived."""
         return all(each in self.may_be(sent, part) or is_waived and each == WAIVED for part, each in enumerate(group))
 
     def check_prices(self, series: Series) -> None:
-        """A feed with prices that nobody asks is not posted where the desk had others, unless a person let it in."""
+        """A feed with prices that nobody asks is not posted if the desk had others, unless a person let it in."""
         before: dict[str, float] = {}
         for number in range(series.first, series.next):
             had = series.had[number]
@@ -599,7 +599,7 @@ class Model(RuleBasedStateMachine):
         return {product[0][1]: float(product[3][2]) if len(product) > 3 else 0 for product in products}
 
     def check_full(self, inbox: Inbox, series: Series) -> None:
-        """The desk has what the last full files named, where nothing was missing and nobody refused anything."""
+        """The desk has what the last full files named, if nothing was missing and nobody refused anything."""
         last = inbox.ledger.full_files()[: self.inbox.settings.full]
         refused = any(sent.is_rejected for sent in self.sent.values())
         if not self.is_next or not last or refused or self.by_hand or any(file.state != "applied" for file in last):
@@ -611,8 +611,8 @@ class Model(RuleBasedStateMachine):
 
 
 def case(examples: int, steps: int, place: Path | None = None, is_same: bool = False) -> type[unittest.TestCase]:
-    """The model as a case of so many runs of so many steps each, which are the same each time, or others. The steps of one
-    that fails are printed as Python makes them again."""
+    """The model as a case of so many runs of so many steps each, always the same or random ones. Python prints the
+    steps of a failing run as they can be repeated."""
     Model.place = place
     found: type[unittest.TestCase] = Model.TestCase
     found.settings = hypothesis_settings(  # type: ignore[attr-defined]
@@ -620,7 +620,7 @@ def case(examples: int, steps: int, place: Path | None = None, is_same: bool = F
         stateful_step_count=steps,
         deadline=None,
         database=None,
-        # What fails is not made shorter, which takes longer than a run of its own.
+        # Failures are not shrunk, which takes longer than a run of its own.
         phases=[Phase.generate],
         report_multiple_bugs=False,
         derandomize=is_same,

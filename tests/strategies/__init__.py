@@ -1,1 +1,1 @@
-"""Strategies of Hypothesis, which is asked for only where a group of cases has some."""
+"""Strategies of Hypothesis, which is imported only if a group of cases has some."""

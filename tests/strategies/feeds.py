@@ -1,5 +1,5 @@
-"""Feeds, and what they are converted with, as strategies of Hypothesis. Each choice has its simplest first, so that a
-feed that fails shrinks to one that is short and right but for what makes it fail."""
+"""Feeds, and the words to convert them with, as strategies of Hypothesis. Each choice has its simplest first, so that a
+failing feed shrinks to one that is short and right except for what makes it fail."""
 
 import re
 from typing import Any, TypeVar
@@ -14,7 +14,7 @@ Text = SearchStrategy[str]
 Made = TypeVar("Made")
 
 CONTROL = "x&#127;"
-# More than the 1,024 bytes that a field has.
+# More than the 1,024 bytes of a field.
 LONG = "é" * 513
 
 SENDER = ("06", "S,1")
@@ -35,7 +35,7 @@ def parts(*texts: Text) -> Text:
 
 
 def composite(name: str, *texts: Text) -> Text:
-    """One with these in it, of which the order says nothing."""
+    """One with these in it, in any order."""
     return st.builds(element, st.just(name), rarely(parts(*reversed(texts)), parts(*texts), 6))
 
 
@@ -50,8 +50,8 @@ def some(text: Text, most: int) -> Text:
 
 
 def leaf(name: str, usual: str, odd: str | None = None, of: int = 40) -> Text:
-    """An element with one of the texts that are usual, which bars keep apart, or with an odd one. It is not there
-    where that text is empty."""
+    """An element with one of the usual texts, which bars separate, or with an odd one; it is missing if that text is
+    empty."""
 
     def texts(text: str) -> Text:
         return st.sampled_from([element(name, each) if each else "" for each in text.split("|")])
@@ -76,7 +76,7 @@ def identifiers(name: str, most: int) -> Text:
 # Territories.
 
 COUNTRIES = ["GB", "IE", "FR", "US", "UK", "EL"]
-# Those of which the lists become longer than a field, or not quite.
+# Those whose lists become longer than a field, or almost.
 LETTERS = "ABCDEFGHIJKLMNOPQRSTUVWXYZ"
 MANY = " ".join([first + second for first in LETTERS for second in LETTERS][:341])
 
@@ -98,7 +98,7 @@ TERRITORY = composite(
     leaf("RegionsExcluded", "", "CA-QC|GB-NIR US-NY2|ECZ|IE|GB-|WORLD", 8),
 )
 
-# Markets are of countries, or of the world without some, so that several of a ProductSupply become one in every way.
+# Markets are of countries, or of the world without some, so that several of a ProductSupply merge in every way.
 WORLD_BUT = composite("Territory", leaf("RegionsIncluded", "WORLD|"), countries("CountriesExcluded", 2))
 MARKET = composite("Market", rarely(some_of(""), st.one_of(TERRITORY, WORLD_BUT), 20), leaf("SalesRestriction", "|x"))
 
@@ -114,7 +114,7 @@ NO_DAYS += [("20250101", "02"), ("20250101", "06"), ("2025010120250230", "06"), 
 
 
 def dated(role: str, day: tuple[str, str], in_element: bool) -> str:
-    """The format stands in an element, or in an attribute, which goes before one."""
+    """The format is in an element, or in an attribute, which takes precedence."""
     text, form = day
     attribute = f' dateformat="{form}"' if form and not in_element else ""
     told = element("DateFormat", form if in_element else "13") if form else ""
@@ -129,7 +129,7 @@ DATE = st.one_of(
 )
 ODD_DATE = st.builds(dated, st.sampled_from(["14", "15", "24", "13"]), st.sampled_from(NO_DAYS + DAYS), st.booleans())
 
-# What leaves a Price out, or is passed over in one.
+# What leaves a Price out, or is ignored in one.
 ODD_IN_PRICE = some_of(
     "<PriceStatus>02</PriceStatus>",
     "<PriceCondition><PriceConditionType>00</PriceConditionType></PriceCondition>",
@@ -187,7 +187,7 @@ def territory(included: str, world: str = "", excluded: str = "") -> str:
     return element("Territory", "".join(listed(name, text.split()) for name, text in named.items()))
 
 
-# Prices that are alike but for where they hold and how much they are.
+# Prices that differ only in where they hold and in their amount.
 WHERE = ["", territory("GB"), territory("", "WORLD"), territory("IE GB IE"), territory("", "WORLD", "US UK")]
 WHERE += [territory("FR GB", "", "GB"), territory("FR", "WORLD"), territory("", "", MANY)]
 
@@ -202,7 +202,7 @@ ALIKE = st.tuples(KIND, rarely(DATES, some_of(""), 3)).flatmap(alike)
 
 # Supplies, products and messages.
 
-# The one that may be asked for and another one, who may have a number of the same value.
+# The supplier that may be requested and another one, who may have a number of the same value.
 THESE = [("06", "5030670000009"), ("01", "5030670000009"), ("06", "5012345678900")]
 
 
@@ -248,7 +248,7 @@ PRODUCT = composite(
 
 ADDRESSEE = composite("Addressee", identifiers("Addressee", 2))
 
-# Most are taken, with the words below.
+# Most are accepted, with the words below.
 HEADER = composite(
     "Header",
     rarely(composite("Sender", identifiers("Sender", 2)), some_of(element("Sender", "")), 4),
@@ -263,7 +263,7 @@ HEADER = composite(
 MESSAGE = rarely(parts(PRODUCT, HEADER), parts(HEADER, some(PRODUCT, 3)), 60)
 
 
-# What is put before or behind an end tag: what comes again, with the NAME in that tag; what changes nothing, or is a
+# What is put before or after an end tag: what comes again, with the NAME in that tag; what changes nothing, or is a
 # stranger; and what makes it no message.
 AGAIN = ["<NAME/>", "<NAME>7</NAME>"]
 ASIDE = [
@@ -313,7 +313,7 @@ def with_aside(message: str, among: list[tuple[int, bool, str]]) -> str:
 OWN = ' xmlns="urn:own" xmlns:o="urn:own"'
 SHORT = "short tags"
 ROOTS = ["", OWN, ' xmlns="http://ns.editeur.org/onix/3.0/reference"', SHORT]
-# The elements whose names have the prefix, by which they are in the namespace of the root, or, undeclared, in none.
+# The elements whose names have the prefix, which puts them into the root's namespace, or, undeclared, into none.
 PREFIXED = st.sets(some_of("Product", "Price", "IDValue", "Territory", "PriceAmount"), max_size=2)
 
 

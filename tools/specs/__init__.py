@@ -1,1 +1,1 @@
-"""What the files of specs/ define, and the page that tells it."""
+"""The definitions in specs/, and the page about them."""

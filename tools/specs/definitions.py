@@ -1,4 +1,4 @@
-"""The public definitions of a crate's specs/, each with the comment above it."""
+"""The public definitions in a crate's specs/, each with the comment above it."""
 
 import re
 from dataclasses import dataclass
@@ -9,10 +9,10 @@ COMMENT = re.compile(r"(?:  )?-- (.*)")
 # Those of a section with parameters are indented.
 DEFINITION = re.compile(r"(?:  )?(?:abbrev pub|unfoldable pub|pub record|pub data) (\S+)")
 
-# A lemma that a function outside of its crate needs for a law.
+# A lemma that a function outside its crate needs for a law.
 LEMMA = re.compile(r"pub ([\w-]+) :")
 
-# Lemmas have no name that a contract cites, and private definitions no public contract.
+# No contract cites the name of a lemma, and no public contract a private definition.
 LEFT_OUT = re.compile(r"Lib|private|private\..*|.*Lemmas")
 
 IMPORT = re.compile(r"use Rattle\.(\w+)\.specs\.(\w+)(?:\.\{([^}]*)\}| as (\w+))")
@@ -31,8 +31,8 @@ class Name:
 
 @dataclass
 class File:
-    """A file of specs/: what its first line says of it, and its definitions in their order: the comment of each, its
-    lines, what it cites of other files, and the words of its own; and what it hands on."""
+    """A file of specs/: its first line, its definitions in order (the comment, the lines, what each cites of other
+    files, and its own words), and what it re-exports."""
 
     crate: str
     name: str
@@ -59,7 +59,7 @@ def imported(text: str) -> dict[str, tuple[str, str, str]]:
 
 
 def names_in(text: str, imports: dict[str, tuple[str, str, str]]) -> set[Name]:
-    """The imported names that a text has."""
+    """The imported names that occur in a text."""
     found = set()
     for word in WORD.findall(text):
         whole, _, part = word.partition(".")
@@ -101,7 +101,7 @@ def read_file(crate: str, name: str, text: str) -> File:
 
 
 def read_crate(folder: Path) -> list[File]:
-    """The files of a crate's specs/, in the order in which Lib.antt names them."""
+    """The files of a crate's specs/, in the order of Lib.antt."""
     specs = folder / "specs"
     if not specs.is_dir():
         return []

@@ -1,4 +1,4 @@
-"""The definitions of the desk in the order in which they are read: order.txt has it, below headings."""
+"""The desk's definitions in reading order: order.txt lists them, below headings."""
 
 import sys
 from pathlib import Path
@@ -23,7 +23,7 @@ def sections() -> dict[str, list[Name]]:
 
 
 def origin(name: Name, files: dict[tuple[str, str], File]) -> Name | None:
-    """Where a name is defined, which another file may hand on; none if it is no definition of these files."""
+    """Where a name is defined, which another file may re-export; None if these files do not define it."""
     file = files.get((name.crate, name.file))
     if file and name.word not in file.formulas:
         return next((origin(it, files) for it in file.handed_on if it.word == name.word), None)
@@ -31,7 +31,7 @@ def origin(name: Name, files: dict[tuple[str, str], File]) -> Name | None:
 
 
 def lacking(files: list[File]) -> list[str]:
-    """What the order names that is no definition, and what its definitions cite that it does not name."""
+    """Names in the order without a definition, and citations that it lacks."""
     by_place = {(file.crate, file.name): file for file in files}
     listed = [name for names in sections().values() for name in names]
     lost = [f"no definition {name.word} in {name.crate}/{name.file}" for name in listed if not origin(name, by_place)]

@@ -1,4 +1,4 @@
-"""docs/DEFINITIONS.md, as the comments of specs/ have it, which `make definitions` writes."""
+"""docs/DEFINITIONS.md, from the comments in specs/; `make definitions` writes it."""
 
 import re
 from pathlib import Path
@@ -37,7 +37,7 @@ def remark(comment: str) -> str:
 
 
 def read_lines(files: list[File]) -> list[str]:
-    """What the page says of the desk, section by section."""
+    """The page's part about the desk, section by section."""
     by_place = {(file.crate, file.name): file for file in files}
     lines = []
     for heading, names in sections().items():
@@ -51,7 +51,7 @@ def read_lines(files: list[File]) -> list[str]:
 
 
 def index_lines(files: list[File], read: set[Name]) -> list[str]:
-    """The index of the definitions of a crate that have a comment and were not read before."""
+    """The index of a crate's definitions that have a comment and did not come before."""
     lines = []
     for file in files:
         remarks = [

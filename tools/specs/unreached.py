@@ -1,4 +1,4 @@
-"""The definitions of specs/ that no contract reaches, of a public function or a private one: such belong into proofs/."""
+"""The definitions in specs/ that no contract of a public or private function reaches: they belong into proofs/."""
 
 import sys
 from pathlib import Path
@@ -8,12 +8,12 @@ from tools.specs.definitions import File, Name, crates, imported, names_in, read
 
 
 def is_reached(file: File, word: str, found: set[Name]) -> bool:
-    """Whether it is among those found; what is written as an operator has another name where it stands."""
+    """Whether it is among those found; an operator has another name where it is written."""
     return "◌" in word or Name(file.crate, file.name, word) in found
 
 
 def unreached(root: Path) -> list[Name]:
-    """They, in the order of crates and files."""
+    """These definitions, by crate and file."""
     folders = [root / "crates" / name for name in crates(root)]
     files = [file for folder in folders for file in read_crate(folder)]
     uses = {

@@ -1,1 +1,1 @@
-"""The programs of a shop beside its desk: inbox, copies, restores, renewals, prices."""
+"""The shop's programs beside its desk: inbox, copies, restores, renewals, prices."""

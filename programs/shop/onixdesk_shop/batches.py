@@ -1,4 +1,4 @@
-"""A text of requests that is larger than a batch, sent as several."""
+"""Cuts a text of requests that is larger than a batch into several batches."""
 
 from collections.abc import Iterable, Iterator
 
@@ -8,14 +8,14 @@ from onixdesk_shop.lines import cut
 
 MOST_BYTES = 4_194_304
 
-# The records with which a request begins, as the desk writes them.
+# The first fields of records that begin a request, as the desk writes them.
 NAMES = "Agree", "Waive", "Message", "AskPrice", "AskChoice", "AskCalendar", "AskGaps", "AskCatalogue"
 BEGINNINGS = tuple(f"{name},".encode() for name in NAMES)
 
 
 def cut_into_batches(lines: Iterable[bytes], most: int = MOST_BYTES) -> Iterator[bytes]:
-    """A text that `onixdesk export` wrote, where no field has a line end, in batches that the desk takes: cut before a
-    record that begins a request."""
+    """Cuts a text of `onixdesk export`, whose fields have no line ends, into batches that the desk takes: before
+    records that begin a request."""
     pieces: list[bytes] = []
     size, whole = 0, 0
     for line in lines:
@@ -32,7 +32,7 @@ def cut_into_batches(lines: Iterable[bytes], most: int = MOST_BYTES) -> Iterator
 
 
 def send(desk: DeskFile, lines: Iterable[bytes]) -> None:
-    """Has a desk take a text in batches. Failed where it refuses a request."""
+    """Sends a text to a desk in batches; raises Failed if it refuses a request."""
     for batch in cut_into_batches(lines):
         if refused := [record for record in desk.batch(batch.decode()) if record[0] == "refused"]:
             raise Failed(f"the desk refuses {len(refused)} requests, the first: {cut(','.join(refused[0]))}")

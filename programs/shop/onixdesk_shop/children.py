@@ -1,4 +1,4 @@
-"""Children, run to their end. An end that is not known is a failure."""
+"""Runs children to their end. An unknown exit status is a failure."""
 
 import contextlib
 import os
@@ -18,7 +18,7 @@ ENVIRONMENT = {"PATH": os.environ.get("PATH", os.defpath), "HOME": "/nonexistent
 
 
 class Ended(NamedTuple):
-    """How a child ended, and what it wrote."""
+    """A child's exit status, and what it wrote."""
 
     status: int
     output: bytes
@@ -26,7 +26,7 @@ class Ended(NamedTuple):
 
 
 def run(words: Words, known: tuple[int, ...], pieces: Iterable[bytes], seconds: float | None) -> Ended:
-    """Runs a child that reads these pieces, or as many of them as it will."""
+    """Runs a child that reads these pieces, or as many as it wants."""
     name = Path(words[0]).name
     with tempfile.TemporaryFile() as written, tempfile.TemporaryFile() as errors:
         try:

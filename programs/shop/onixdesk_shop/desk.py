@@ -1,4 +1,4 @@
-"""The one client of the desk, at its socket for batches: reports on gaps, messages, questions."""
+"""The one client of the desk, at its socket for batches: it asks for gaps, delivers messages, asks questions."""
 
 from collections.abc import Iterable, Iterator
 from dataclasses import dataclass
@@ -9,12 +9,12 @@ from onixdesk_shop.lines import cut
 from onixdesk_shop.machine import Machine
 from onixdesk_shop.messages import records_of
 
-# How long is waited between two tries at a desk that starts, in seconds.
+# The pause between two tries at a desk that starts, in seconds.
 PAUSE = 1.0
 
 
 class NoDesk(Fault):
-    """Nobody answers, or not to the end."""
+    """Nobody answers, or the answer breaks off."""
 
 
 @dataclass(frozen=True)
@@ -27,15 +27,15 @@ class Gaps:
     missing: tuple[tuple[int, int], ...]
 
     def lacks(self, number: int) -> bool:
-        """Whether the desk would take a message of that number, and has neither that nor a waiver."""
+        """Whether the desk has neither a message nor a waiver at that number, and would take one."""
         is_beyond = self.greatest is None or number > self.greatest
         return number >= self.first and (is_beyond or any(low <= number <= high for low, high in self.missing))
 
 
 @dataclass(frozen=True)
 class Taken:
-    """What the desk says of a message that it has: in which series, and how many products had which effect, or for
-    which number it waits; `said` is its record."""
+    """The desk took a message: its series, and how many products had which effect, or the number for which it waits;
+    `said` is the answer."""
 
     series: str
     counts: dict[str, int]
@@ -44,7 +44,7 @@ class Taken:
 
 @dataclass(frozen=True)
 class Refused:
-    """Why the desk does not take a message, and what it says besides."""
+    """The desk refused a message: the reason, and the other fields of the answer."""
 
     reason: str
     words: list[str]
@@ -55,7 +55,7 @@ class Refused:
 
 
 class Desk:
-    """A desk that is open. It is waited for as long as nobody listens yet, so many seconds at most."""
+    """An open desk. While nobody listens yet, it waits for so many seconds at most."""
 
     def __init__(self, machine: Machine, socket: Path, patience: float = 0) -> None:
         self.machine = machine
@@ -63,7 +63,7 @@ class Desk:
         self.patience = patience
 
     def batch(self, text: str) -> list[list[str]]:
-        """The records that it answers a batch with. NoDesk where nobody answers to the end."""
+        """The records that answer a batch; raises NoDesk if the answer breaks off."""
         end = self.machine.now() + self.patience
         while True:
             try:
@@ -76,16 +76,16 @@ class Desk:
             except OSError as error:
                 raise NoDesk(f"no desk answers at {self.socket}: {error.strerror or error}") from None
         if not said.endswith(b"\n"):
-            raise NoDesk(f"the desk at {self.socket} gives no whole answer")
+            raise NoDesk(f"the answer of the desk at {self.socket} breaks off")
         return [*records_of(said)]
 
     def gaps(self, series: str) -> Gaps | None:
-        """Its report on a series; nothing where it has not agreed on that."""
+        """The report on a series, or None if the desk has not agreed on it."""
         records = self.batch(f"AskGaps,{series}\n")
         return None if records[0][:2] == ["refused", "unknown-series"] else reports_in(records)[series]
 
     def post(self, message: bytes) -> Taken | Refused:
-        """What it says of a message. Fault where it says neither yes nor no."""
+        """The answer to a message; raises Fault if it is neither yes nor no."""
         match self.batch(message.decode()):
             case [["applied" | "held", series, _, *words] as record]:
                 counts = {name: int(value) for name, value in (word.split("=") for word in words)}
@@ -96,12 +96,12 @@ class Desk:
                 raise Fault(f"the desk answers {cut(str(records))}")
 
 
-# An answer is a record and those of these kinds behind it.
+# An answer is a record, followed by records of these kinds.
 BEHIND = ("offer", "span", "missing")
 
 
 def answers_in(records: Iterable[list[str]]) -> Iterator[list[list[str]]]:
-    """The answers to questions about articles and gaps, each with its records."""
+    """Groups records by answer: those about articles and gaps."""
     answer: list[list[str]] = []
     for record in records:
         if record[0] not in BEHIND and answer:
@@ -113,7 +113,7 @@ def answers_in(records: Iterable[list[str]]) -> Iterator[list[list[str]]]:
 
 
 def reports_in(records: list[list[str]]) -> dict[str, Gaps]:
-    """The reports on gaps by their series."""
+    """The reports on gaps, by series."""
     found = {}
     for (_, name, *words), *missing in answers_in(records):
         head = dict(word.split("=", 1) for word in words)

@@ -1,4 +1,4 @@
-"""The two files of a desk that nobody has open: what SQLite and the desk's own program say of them."""
+"""The two files of a desk that nobody has open, as SQLite and the desk's own program read them."""
 
 from dataclasses import dataclass, field
 from pathlib import Path
@@ -18,7 +18,7 @@ def log_of(database: Path) -> Path:
 
 
 def check(machine: Machine, database: Path, source: Path) -> None:
-    """Failed where SQLite finds the copy of that source not to be a sound database of a desk."""
+    """Raises Failed unless SQLite finds the copy of that source to be a sound database of a desk."""
     try:
         with machine.reading(database) as connection:
             wrong = str(connection.execute("PRAGMA integrity_check").fetchone()[0])
@@ -34,20 +34,20 @@ def check(machine: Machine, database: Path, source: Path) -> None:
 
 @dataclass
 class Contents:
-    """What a desk was told: the agreements by their series, and which numbers it has, those waived apart."""
+    """What a desk was told: the agreements by series, and the numbers it has, waived ones apart."""
 
     agreements: dict[str, str] = field(default_factory=dict)
     messages: set[tuple[str, int]] = field(default_factory=set)
     waivers: set[tuple[str, int]] = field(default_factory=set)
 
     def beyond(self, other: "Contents") -> "Contents":
-        """What this desk has and the other one lacks."""
+        """What this desk has and the other lacks."""
         agreements = {name: line for name, line in self.agreements.items() if name not in other.agreements}
         known = other.messages | other.waivers
         return Contents(agreements, self.messages - known, self.waivers - known)
 
     def requests(self) -> str:
-        """The agreements and waivers as a batch makes them again."""
+        """A batch that makes the agreements and waivers again."""
         waivers = [f"Waive,{series},{number}" for series, number in sorted(self.waivers)]
         return "".join(f"{line}\n" for line in [*self.agreements.values(), *waivers])
 
@@ -64,7 +64,7 @@ def contents_of(machine: Machine, database: Path) -> Contents:
 
 
 class DeskFile:
-    """A desk over files, asked by runs of its own program."""
+    """A desk over files; each batch is a run of its own program."""
 
     def __init__(self, machine: Machine, program: Path, database: Path, rules: Path | None = None) -> None:
         self.machine = machine
@@ -73,11 +73,11 @@ class DeskFile:
         self.words: list[str | Path] = [program, *table, "--db", database]
 
     def batch(self, text: str) -> list[list[str]]:
-        """The records that it answers a batch with. It is made where it is not there."""
+        """The records that answer a batch. It creates the desk if there is none."""
         return [*records_of(self.machine.run([*self.words, "batch"], (0, 1), text.encode()).output)]
 
     def gaps(self) -> dict[str, Gaps]:
-        """Its reports on all series. Failed where the program does not take the files."""
+        """The reports on all series; raises Failed if the program refuses the files."""
         try:
             answers = self.machine.run([*self.words, "--existing", "gaps"], (0, 1)).output
         except BadEnd as error:

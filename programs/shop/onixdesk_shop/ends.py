@@ -1,4 +1,4 @@
-"""How a program ends: its status, and why where it could not do its work."""
+"""How a program ends: with its status, and with a reason if it failed."""
 
 import argparse
 import os
@@ -20,8 +20,8 @@ wrong; 3 if a file, the desk or another program fails. The documents of the pack
 
 
 def parser_of(program: str, description: str, /, **paths: Path | None) -> argparse.ArgumentParser:
-    """A parser with an option for each of the paths, whose help keeps the lines of its texts, and which takes no
-    abbreviations."""
+    """A parser with an option for each path. Its help keeps the line breaks of its texts; options cannot be
+    abbreviated."""
     parser = argparse.ArgumentParser(
         program,
         description=description,
@@ -36,15 +36,15 @@ def parser_of(program: str, description: str, /, **paths: Path | None) -> argpar
 
 
 def day_word(word: str) -> str:
-    """A day of the calendar on a command line, as the desk writes it."""
+    """A day on a command line, as the desk writes it."""
     try:
         return date.fromisoformat(word).isoformat().replace("-", "")
     except ValueError:
-        raise argparse.ArgumentTypeError(f"{token(word)} is no day YYYYMMDD") from None
+        raise argparse.ArgumentTypeError(f"{token(word)} is not a day YYYYMMDD") from None
 
 
 def program_of(word: Path) -> Path:
-    """A program of that name, or at that place."""
+    """A program of that name or path."""
     found = shutil.which(word)
     if not found:
         raise Fault(f"{word}: there is no such program")
@@ -52,8 +52,8 @@ def program_of(word: Path) -> Path:
 
 
 def call(parser: argparse.ArgumentParser, work: Callable[[Machine, argparse.Namespace], int]) -> int:
-    """The status of a program's work on this machine, by the words of its command line. One that `goes_on` is not ended by
-    a terminal that hangs up."""
+    """Does a program's work on this machine, by its command line, and returns the status. If it `goes_on`, it ignores a
+    terminal that hangs up."""
     options = parser.parse_args()
     os.umask(0o077)
     for number in (signal.SIGTERM, signal.SIGHUP):
@@ -66,7 +66,7 @@ def call(parser: argparse.ArgumentParser, work: Callable[[Machine, argparse.Name
 
 
 def status_of(machine: Machine, work: Callable[[Machine], int]) -> int:
-    """What ends the work is told, a fault in a line, a mistake of the program itself with its traceback."""
+    """Reports what ended the work: a fault in a line, a bug of the program with its traceback."""
     try:
         return work(machine)
     except Fault as fault:

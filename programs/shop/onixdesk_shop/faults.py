@@ -1,25 +1,25 @@
-"""What keeps a program from its work, with the status by which it ends then."""
+"""What stops a program, with the exit status of each."""
 
 DONE, FAILED, BAD_CALL, FAULT = 0, 1, 2, 3
 
 
 class Fault(Exception):
-    """The machine, the desk or a child does not do what it should."""
+    """The machine, the desk or a child failed."""
 
     status = FAULT
 
 
 class Failed(Fault):
-    """What was asked for is not so."""
+    """The request cannot be met."""
 
     status = FAILED
 
 
 class BadCall(Fault):
-    """Words or settings that a program does not take."""
+    """The program does not accept these words or settings."""
 
     status = BAD_CALL
 
 
 class BadEnd(Fault):
-    """A child that could not be started, took too long, or ended in a way that is not known."""
+    """A child did not start, took too long, or ended with an unknown status."""

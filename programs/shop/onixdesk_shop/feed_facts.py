@@ -1,5 +1,5 @@
-"""Reads a feed from standard input, and writes as JSON what its records do not tell: its discount codes with how many Prices of
-which type each has."""
+"""Reads a feed from standard input, and writes as JSON what its records do not have: its discount codes, and how many
+Prices of which type have each."""
 
 import json
 from collections import Counter
@@ -28,6 +28,6 @@ def write(elements: Iterator[Element]) -> None:
 
 
 def code_of(coded: Element) -> tuple[str, str]:
-    """A code, TYPE,CODE, and the scheme that it is of."""
+    """A code, TYPE,CODE, and its scheme."""
     code = f"{text_in(coded, 'DiscountCodeType')},{text_in(coded, 'DiscountCode')}"
     return code, text_in(coded, "DiscountCodeTypeName")

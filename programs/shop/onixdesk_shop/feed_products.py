@@ -1,5 +1,5 @@
-"""The products of a feed as expat reads them, for people alone: no price hangs on it. Programs of their own use it, so that
-what a stranger's file takes of memory ends nothing else."""
+"""The products of a feed as expat reads them, for people alone: no price depends on them. It runs as a child, so that a
+stranger's file that takes too much memory ends nothing else."""
 
 import codecs
 import html.entities
@@ -16,13 +16,13 @@ LONGEST = 300
 
 
 def text_in(element: Element, path: str) -> str:
-    """The text of the first element of that path that has one."""
+    """The text of the first element at that path that has one."""
     texts = (" ".join("".join(found.itertext()).split())[:LONGEST] for found in element.iterfind(path))
     return next(filter(None, texts), "")
 
 
 class Reader:
-    """What stands directly below the root, one after the other, by reference names; `names` has them by short tags."""
+    """Reads the elements directly below the root by reference names; `names` has them by short tags."""
 
     def __init__(self, names: dict[str, str], encoding: str | None) -> None:
         self.names = names
@@ -57,7 +57,7 @@ class Reader:
 
 
 def elements_in(stream: IO[bytes], names: dict[str, str]) -> Iterator[Element]:
-    """What stands directly below the root, in order. A byte order mark outweighs what the feed declares."""
+    """The elements directly below the root, in order. A byte order mark takes precedence over the declaration."""
     piece = stream.read(PIECE)
     reader = Reader(names, "utf-8" if piece.startswith(codecs.BOM_UTF8) else None)
     while piece:
@@ -69,8 +69,8 @@ def elements_in(stream: IO[bytes], names: dict[str, str]) -> Iterator[Element]:
 
 
 def read_input(names: str, work: Callable[[Iterator[Element]], None]) -> None:
-    """The work of a program that reads a feed from its standard input; `names` has pairs SHORT=NAME."""
+    """Runs a program that reads a feed from its standard input; `names` has pairs SHORT=NAME."""
     try:
         work(elements_in(sys.stdin.buffer, dict(pair.split("=") for pair in names.split())))
     except (expat.ExpatError, ValueError, LookupError) as error:
-        sys.exit(f"expat does not take it: {error}")
+        sys.exit(f"expat cannot read it: {error}")

@@ -1,4 +1,4 @@
-"""What a feed has: unpacked where it is packed, recoded where it is UTF-16."""
+"""The bytes of a feed: unpacked if it is packed, recoded if it is UTF-16."""
 
 import codecs
 import gzip
@@ -12,7 +12,7 @@ from typing import IO, Any
 
 PIECE = 65_536
 
-# What a Mac adds to each zip.
+# A folder that macOS adds to each zip.
 OF_A_MAC = "__MACOSX/"
 
 DAMAGE = (zipfile.BadZipFile, EOFError, zlib.error, lzma.LZMAError, RuntimeError, ValueError, OSError)
@@ -23,7 +23,7 @@ class Damaged(Exception):
 
 
 def entry_of(path: Path) -> IO[bytes]:
-    """The one file of a zip, beside its folders and what a Mac adds."""
+    """The one file in a zip, besides folders and what macOS adds."""
     archive = zipfile.ZipFile(path)
     entries = [entry for entry in archive.infolist() if not entry.is_dir() and not entry.filename.startswith(OF_A_MAC)]
     if len(entries) != 1:
@@ -39,7 +39,7 @@ def unpacked(path: Path) -> Iterator[bytes]:
 
 
 def recoded(pieces: Iterator[bytes]) -> Iterator[bytes]:
-    """The same in UTF-8 where it begins with the mark of UTF-16; the mark of UTF-8 outweighs what it declares."""
+    """UTF-16 with its mark, recoded to UTF-8; the mark of UTF-8 takes precedence over the declaration."""
     first = next(pieces, b"")
     whole: Iterator[bytes] = itertools.chain([first], pieces)
     if first.startswith((codecs.BOM_UTF16_LE, codecs.BOM_UTF16_BE)):
@@ -49,8 +49,8 @@ def recoded(pieces: Iterator[bytes]) -> Iterator[bytes]:
 
 
 def pieces_of(path: Path) -> Iterator[bytes]:
-    """Damaged where it cannot be read to its end."""
+    """Raises Damaged if the file cannot be read to its end."""
     try:
         yield from recoded(unpacked(path))
     except DAMAGE as error:
-        raise Damaged(f"it cannot be unpacked, or is no text in UTF-16: {error or 'it ends too early'}") from None
+        raise Damaged(f"it cannot be unpacked, or is not UTF-16: {error or 'it ends too early'}") from None

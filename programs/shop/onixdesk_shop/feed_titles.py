@@ -1,4 +1,4 @@
-"""Reads a feed from standard input, and writes a line of JSON for each product that has an ISBN: the ISBN, whether it is a
+"""Reads a feed from standard input, and writes a line of JSON for each product with an ISBN: the ISBN, whether it is a
 deletion, title, subtitle, contributors, publisher."""
 
 import json

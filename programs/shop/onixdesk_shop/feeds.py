@@ -1,4 +1,4 @@
-"""Feeds through the converter, and messages through `onixdesk check`."""
+"""Converts feeds, and checks messages by `onixdesk check`."""
 
 import re
 import sys
@@ -10,14 +10,14 @@ from onixdesk_shop.feed_stream import Damaged, pieces_of
 from onixdesk_shop.lines import cut, shown
 from onixdesk_shop.machine import Machine
 
-# How long a conversion, a reading for people, and a check may take.
+# How long a conversion, a reading for people and a check may take.
 CONVERSION_SECONDS, READING_SECONDS, CHECK_SECONDS = 1800, 600, 60
 
 PROGRAM_SAYS = "onixdesk: "
 ON_INPUT = re.compile(r"onixdesk: -(?::([0-9]+):([0-9]+))?: ")
 COUNTED = re.compile(r"(.*): ([0-9]+)")
 
-# What the converter proposes on a command line, but the number, stands in WORDS of an inbox.
+# The converter proposes command-line options. Except for the number, they go into WORDS of an inbox.
 REMEDY = re.compile(r"(--(?:sender|addressee|supplier|wrong) \S+)")
 
 
@@ -27,7 +27,7 @@ class Refusal(Exception):
 
 @dataclass
 class Said:
-    """What the converter said of a feed, and how often each reason, or what else it counts."""
+    """What the converter said of a feed, and how often it gave each reason or counted something else."""
 
     lines: list[str] = field(default_factory=list)
     reasons: dict[str, int] = field(default_factory=dict)
@@ -65,7 +65,7 @@ def refusal_of(said: Said) -> str:
 
 
 def read_by(machine: Machine, module: str, source: Path) -> bytes:
-    """What a module of the package says of a feed, as a child. BadEnd where it does not read it to its end."""
+    """What a module of the package, run as a child, writes about a feed. BadEnd if it does not read all of it."""
     package = Path(__file__).parent
     modules = f"from {package.name} import feed_products, {module} as said"
     start = (
@@ -81,8 +81,8 @@ def read_by(machine: Machine, module: str, source: Path) -> bytes:
 def convert(
     machine: Machine, program: Path, source: Path, words: list[str], terms: bytes | None, work: Path
 ) -> tuple[list[bytes], Said]:
-    """The messages of a feed, in the order of their numbers, and what was said of it. Refusal where it has none that the
-    desk would take; BadCall where the words or the table of terms are wrong. The folder `work` is emptied for it."""
+    """The messages of a feed, in order of number, and what the converter said. Raises Refusal if it has none that the
+    desk would take, BadCall if the words or the table of terms are wrong. Empties the folder `work` first."""
     machine.remove_tree(work)
     machine.make_folder(work)
     call: list[str | Path] = [program, "convert", *words, "-o", work, "-"]
@@ -104,7 +104,7 @@ def convert(
 
 
 def check(machine: Machine, program: Path, message: bytes) -> str:
-    """Why the desk would not take a message, or an empty text."""
+    """Why the desk would refuse a message, or an empty text."""
     ended = machine.run([program, "check", "-"], (DONE, FAILED), message, seconds=CHECK_SECONDS)
     if ended.status == DONE:
         return ""

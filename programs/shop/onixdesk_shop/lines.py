@@ -1,4 +1,4 @@
-"""Lines for journal, mail and terminal. What comes from others is one quoted token, cut."""
+"""Lines for the journal, mails and terminals. Text from others is one quoted token, cut."""
 
 import shlex
 
@@ -9,23 +9,23 @@ MOST_TEXT = 300
 
 
 def shown(text: str) -> str:
-    """A text without control characters and what is no character, each escaped."""
+    """Escapes control characters and what is no character."""
     return "".join(letter if letter.isprintable() else ascii(letter)[1:-1] for letter in text)
 
 
 def cut(text: str, most: int = MOST_TEXT) -> str:
-    """A text of others, shown, its middle left out where it is longer."""
+    """A text from others, shown; if it is too long, its middle is left out."""
     text = shown(text)
     return text if len(text) <= most else f"{text[: most // 2]}..{text[-most // 2 :]}"
 
 
 def token(name: str) -> str:
-    """A name of others as one word of a shell, whatever is in it."""
+    """A name from others as one word of a shell, whatever is in it."""
     return shlex.quote(cut(name, MOST_LETTERS))
 
 
 def ranges(numbers: list[int]) -> str:
-    """Numbers in order, in words."""
+    """Numbers in order, as ranges."""
     if len(numbers) == 1:
         return f"number {numbers[0]}"
     return f"{len(numbers)} numbers from {numbers[0]} to {numbers[-1]}"

@@ -1,5 +1,5 @@
-"""The one place where the package touches the machine: files, SQLite, the desk's socket, children, the clock,
-output. The tests put their faults here, and nowhere else."""
+"""The one place where the package touches the machine: files, SQLite, the desk's socket, children, the clock, output.
+Tests inject their faults here, and nowhere else."""
 
 import contextlib
 import fcntl
@@ -23,7 +23,7 @@ from onixdesk_shop.faults import DONE, Fault
 
 PIECE = 1 << 20
 
-# Where SQLite locks a database: an open desk has all of it.
+# Where SQLite locks a database: an open desk locks all of it.
 LOCKED_FROM, LOCKED_LENGTH = 1 << 30, 512
 
 # The desk answers one client at a time, so a message waits for those before it.
@@ -31,7 +31,7 @@ SECONDS = 3600
 
 
 class Entry(NamedTuple):
-    """What a folder has under a name; times in nanoseconds."""
+    """An entry of a folder; times in nanoseconds."""
 
     name: str
     size: int
@@ -58,7 +58,7 @@ class Machine:
     # Files
 
     def entries(self, folder: Path) -> list[Entry]:
-        """What a folder has, by name. A name that is gone by then is left out."""
+        """The entries of a folder, by name, without those that vanish meanwhile."""
         found = []
         for name in sorted(os.listdir(folder)):
             with contextlib.suppress(FileNotFoundError):
@@ -66,7 +66,7 @@ class Machine:
         return found
 
     def paths(self, folder: Path, pattern: str) -> list[Path]:
-        """What fits a pattern below a folder, in order; nothing where there is no such folder."""
+        """The paths below a folder that match a pattern, in order; none if the folder does not exist."""
         return sorted(folder.glob(pattern))
 
     def entry(self, path: Path) -> Entry:
@@ -76,13 +76,13 @@ class Machine:
         return Entry(path.name, found.st_size, *times, is_regular, found.st_ino)
 
     def copy(self, source: Path, target: Path) -> str:
-        """Copies a regular file, of which the disk has the target then, with its time; the SHA-256 of its bytes."""
+        """Copies a regular file with its time, syncs the copy, and returns the SHA-256 of its bytes."""
         digest = hashlib.sha256()
         opened = os.open(source, os.O_RDONLY | os.O_NOFOLLOW | os.O_NONBLOCK | os.O_CLOEXEC)
         with open(opened, "rb") as old, open(target, "wb") as new:
             found = os.fstat(opened)
             if not stat.S_ISREG(found.st_mode):
-                raise OSError(None, "it is no regular file", str(source))
+                raise OSError(None, "it is not a regular file", str(source))
             while piece := old.read(PIECE):
                 digest.update(piece)
                 new.write(piece)
@@ -95,19 +95,19 @@ class Machine:
         return path.exists()
 
     def read(self, path: Path, most: int = -1) -> bytes:
-        """What a file has, or so many bytes of its beginning."""
+        """The bytes of a file, or its first ones."""
         with open(path, "rb") as file:
             return file.read(most)
 
     def read_json(self, path: Path) -> Any:
-        """What a file of JSON has, an empty object where there is none, or no JSON in it."""
+        """The value in a JSON file; an empty object if there is none, or no JSON in it."""
         try:
             return json.loads(self.read(path))
         except (FileNotFoundError, ValueError):
             return {}
 
     def write_whole(self, path: Path, data: bytes, mode: int = 0o644) -> None:
-        """Writes a file that others read meanwhile: they have the old one, or the new one, whatever happens."""
+        """Replaces a file that others read: they see the old one or the new one, whatever happens."""
         descriptor, name = tempfile.mkstemp(prefix=f".{path.name}.", dir=path.parent)
         try:
             with open(descriptor, "wb") as new:
@@ -144,12 +144,12 @@ class Machine:
 
     @contextlib.contextmanager
     def scratch(self, parent: Path | None = None) -> Iterator[Path]:
-        """A folder of its own, which is removed at the end."""
+        """A temporary folder."""
         with tempfile.TemporaryDirectory(dir=parent, ignore_cleanup_errors=True) as folder:
             yield Path(folder)
 
     def sync_folder(self, folder: Path) -> None:
-        """Has the disk keep the names that a folder has."""
+        """Syncs the names in a folder."""
         opened = os.open(folder, os.O_RDONLY | os.O_DIRECTORY)
         try:
             os.fsync(opened)
@@ -157,7 +157,7 @@ class Machine:
             os.close(opened)
 
     def sync_tree(self, folder: Path) -> None:
-        """Has the disk keep all that is below a folder."""
+        """Syncs everything below a folder."""
         for place, _, names in os.walk(folder):
             for name in names:
                 with open(Path(place) / name, "rb") as file:
@@ -166,7 +166,7 @@ class Machine:
 
     @contextlib.contextmanager
     def lock(self, folder: Path, waits: bool = True) -> Iterator[bool]:
-        """Whether nobody else has the lock of the folder; where it `waits`, once that is so."""
+        """Locks the folder, and returns whether it could; if it `waits`, it does so until it can."""
         opened = os.open(folder, os.O_RDONLY | os.O_DIRECTORY | os.O_CLOEXEC)
         try:
             try:
@@ -181,8 +181,7 @@ class Machine:
     # SQLite
 
     def connect(self, path: Path, schema: str = "") -> sqlite3.Connection:
-        """A database of which the disk has each transaction once it is committed; made by the schema where it is not
-        there."""
+        """A database that syncs each transaction when it commits; it is made by the schema if it does not exist."""
         connection = sqlite3.connect(path, isolation_level=None)
         connection.execute("PRAGMA journal_mode=WAL")
         connection.execute("PRAGMA synchronous=FULL")
@@ -194,15 +193,15 @@ class Machine:
 
     @contextlib.contextmanager
     def transaction(self, connection: sqlite3.Connection) -> Iterator[None]:
-        """All that is done in it, or nothing."""
+        """Does all of it, or nothing."""
         connection.execute("BEGIN IMMEDIATE")
         with connection:
             yield
 
     @contextlib.contextmanager
     def reading(self, database: Path) -> Iterator[sqlite3.Connection]:
-        """A database that nobody has open, to be read; Fault where it cannot be. What SQLite makes beside it is removed at
-        the end."""
+        """Opens a database that nobody else has open, to read it; raises Fault if it cannot. Files that SQLite makes
+        beside it are removed at the end."""
         log = database.with_name(f"{database.name}-wal")
         has_log = log.exists()
         try:
@@ -218,7 +217,7 @@ class Machine:
                 log.unlink(missing_ok=True)
 
     def is_open(self, database: Path) -> bool:
-        """Whether another program has a database open: it has the lock of SQLite's range then."""
+        """Whether another program has a database open: then it locks SQLite's range."""
         try:
             with open(os.open(database, os.O_RDWR | os.O_NOFOLLOW | os.O_CLOEXEC), "r+b", buffering=0) as file:
                 fcntl.lockf(file, fcntl.LOCK_EX | fcntl.LOCK_NB, LOCKED_LENGTH, LOCKED_FROM)
@@ -236,7 +235,7 @@ class Machine:
     # The desk
 
     def batch(self, address: Path, text: bytes) -> bytes:
-        """The answers of a desk to a batch at its socket; OSError where there is none."""
+        """The desk's answers to a batch at its socket; OSError if no desk is there."""
         with socket.socket(socket.AF_UNIX) as client:
             client.settimeout(SECONDS)
             client.connect(str(address))
@@ -256,20 +255,20 @@ class Machine:
         text: bytes | Iterable[bytes] = b"",
         seconds: float | None = None,
     ) -> Ended:
-        """Runs a child that reads the text, or its pieces. BadEnd where it does not end in a way that is known."""
+        """Runs a child that reads the text, or its pieces. BadEnd if it ends in an unknown way."""
         return children.run(words, known, [text] if isinstance(text, bytes) else text, seconds)
 
     # Output
 
     def tell(self, priority: int, line: str) -> None:
-        """Writes a line to standard error, for the journal with its priority."""
+        """Writes a line to standard error, with its priority for the journal."""
         before = f"<{priority}>" if "JOURNAL_STREAM" in os.environ else f"{self.program}: "
         with contextlib.suppress(OSError):
             sys.stderr.write(f"{before}{line}\n")
             sys.stderr.flush()
 
     def write(self, text: str) -> None:
-        """Writes to standard output, as long as somebody takes it."""
+        """Writes to standard output, as long as somebody reads it."""
         if self.is_output_broken:
             return
         try:
@@ -277,10 +276,10 @@ class Machine:
             sys.stdout.flush()
         except OSError:
             self.is_output_broken = True
-            # What is left of it would be written at the end.
+            # Python would write the rest at the end.
             os.dup2(os.open(os.devnull, os.O_WRONLY), sys.stdout.fileno())
 
     def ask(self, question: str) -> str:
-        """The line with which a person answers. Nothing where nobody can read the question."""
+        """A person's answer, as a line; an empty one if nobody can read the question."""
         self.write(question)
         return "" if self.is_output_broken else sys.stdin.readline().strip()

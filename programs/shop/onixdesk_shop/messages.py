@@ -1,4 +1,4 @@
-"""The one reader of messages in records (docs/FORMATS.md). It is given only what `onixdesk check` takes."""
+"""The one reader of messages in records (docs/FORMATS.md). It gets only what `onixdesk check` accepts."""
 
 import csv
 import io
@@ -14,7 +14,7 @@ Records = list[list[str]]
 
 
 class Header(NamedTuple):
-    """What the first record of a message says; `number` is None without one."""
+    """The first record of a message; `number` is None without one."""
 
     sender: tuple[str, str]
     addressee: tuple[str, str]
@@ -25,7 +25,7 @@ class Header(NamedTuple):
 
 @dataclass
 class Product:
-    """A product with its records, the first of which is its own."""
+    """A product with its records; the first is its own."""
 
     records: Records
     kinds: set[tuple[str, str]] = field(default_factory=set)
@@ -40,7 +40,7 @@ class Product:
 
     @property
     def is_block(self) -> bool:
-        """Whether it makes its record, or replaces it whole."""
+        """Whether it makes its record, or replaces all of it."""
         return self.records[0][2] in BLOCKS
 
     @property
@@ -49,7 +49,7 @@ class Product:
 
     @property
     def suppliers(self) -> set[tuple[str, ...]]:
-        """By type and identifier, or, without these, by name."""
+        """By type and identifier, or else by name."""
         details = [record for record in self.records if record[0] == "SupplyDetail"]
         return {tuple(record[2:4]) if record[2] else (record[4],) for record in details}
 
@@ -73,7 +73,7 @@ def header_of(message: bytes) -> Header:
 
 
 def products_of(message: bytes) -> Iterator[Product]:
-    """The products of a message, in its order, with the header's defaults in their prices."""
+    """The products of a message, in order, with the header's defaults filled into their prices."""
     header = header_of(message)
     product: Product | None = None
     for record in records_of(message):
@@ -96,14 +96,14 @@ BELOW = "Product", "ProductSupply", "SupplyDetail", "Price"
 
 
 def is_message(message: bytes) -> bool:
-    """Whether records of which none is malformed are one message, and nothing else."""
+    """Whether well-formed records are one message, and nothing else."""
     names = [record[0] for record in records_of(message)]
     is_one = len(names) > 1 and names[0] == "Message" and names[-1] == "EndMessage"
     return is_one and all(name in BELOW for name in names[1:-1])
 
 
 def text_of(records: Records) -> str:
-    """Records as the desk reads them."""
+    """Writes records as the desk reads them."""
     written = io.StringIO()
     csv.writer(written, lineterminator="\n").writerows(records)
     return written.getvalue()

@@ -1,4 +1,4 @@
-"""Where the package keeps what."""
+"""Where the package keeps its files."""
 
 from pathlib import Path
 
@@ -16,7 +16,7 @@ STATE = LIB / "onixdesk-state"
 
 BATCHES = Path("/run/onixdesk/batches")
 
-# In a copy of a desk: the ledgers of its inboxes, each as SERIES.db.
+# A copy of a desk has the ledgers of its inboxes, each as SERIES.db.
 LEDGERS = "ledgers"
 
 LEDGER, STORE, WORK = "ledger.db", "store", "work"

@@ -23,7 +23,7 @@ def rules_of(text: bytes) -> list[dict[str, Any]]:
     try:
         return list(tomllib.loads(text.decode("utf-8-sig")).get("rule", []))
     except ValueError as error:
-        raise BadCall(f"the rules are no TOML 1.0: {error}") from None
+        raise BadCall(f"the rules are not TOML 1.0: {error}") from None
 
 
 def work(machine: Machine, options: argparse.Namespace) -> int:

@@ -1,4 +1,4 @@
-"""Files of lines NAME=VALUE, and the settings of an inbox that one of them has."""
+"""Files of lines NAME=VALUE, and the settings of an inbox."""
 
 import fnmatch
 import re
@@ -15,10 +15,10 @@ from onixdesk_shop.places import BATCHES
 # Where the number of a feed comes from: its MessageNumber, or the next one of the series.
 OWN, NEXT = "own", "next"
 
-# Words of the converter that the inbox gives itself.
+# Options of the converter that the inbox sets itself.
 RESERVED = re.compile(r"-o.*|--(number|terms)(=.*)?|-h|--help|--?")
 
-# Two names are those of other files beside SERIES.json.
+# Two names are taken by other files beside SERIES.json.
 is_series = re.compile("(?!(?:rules|titles)$)[a-z0-9-]{1,32}").fullmatch
 
 
@@ -38,37 +38,37 @@ class Settings:
 
     @property
     def parts(self) -> int:
-        """How many messages the converter makes of a feed by its words."""
+        """How many messages the converter makes of a feed."""
         return self.given("--parts", 1)
 
     def given(self, word: str, usual: int) -> int:
-        """The number behind a word of the converter."""
+        """The number after an option of the converter."""
         found = re.search(rf"{word}[ =]([1-9][0-9]{{0,8}})(?= |$)", " ".join(self.words))
         return int(found[1]) if found else usual
 
     def gives_number(self, ending: str) -> bool:
-        """Whether the inbox gives a file its number. A file of records has its own, always."""
+        """Whether the inbox gives a file its number. A file of records always has its own."""
         return self.number == NEXT and ending != ".csv"
 
     def is_full(self, name: str) -> bool:
-        """Whether a file of that name says all that its wholesaler has."""
+        """Whether a file of that name is full."""
         if not self.full:
             return False
         return not self.full_names or any(fnmatch.fnmatchcase(name, pattern) for pattern in self.full_names)
 
     def says_all(self, name: str) -> bool:
-        """Whether a file of that name is a whole load by itself, of a wholesaler whose numbers are the inbox's own."""
+        """Whether a file of that name is a whole load, and the inbox gives numbers."""
         return self.number == NEXT and self.full == 1 and self.is_full(name)
 
 
 def read_lines(machine: Machine, path: Path) -> dict[str, tuple[int, str]]:
-    """What each NAME of a file is set to, and at which line."""
+    """The value of each NAME in a file, and its line."""
     try:
         text = machine.read(path).decode("utf-8")
     except OSError as error:
         raise BadCall(f"{path}: {error.strerror}") from None
     except UnicodeDecodeError:
-        raise BadCall(f"{path}: it is no UTF-8") from None
+        raise BadCall(f"{path}: it is not UTF-8") from None
     found: dict[str, tuple[int, str]] = {}
     for place, line in enumerate(text.split("\n"), 1):
         if not line.strip() or line.lstrip().startswith("#"):
@@ -91,7 +91,7 @@ def words(value: str) -> tuple[str, ...]:
     return found
 
 
-# The setting that each line sets, what it may be, and how it is read.
+# The attribute that each line sets, what its value may be, and how it is read.
 READERS: dict[str, tuple[str, str, Callable[[str], Any]]] = {
     "BATCHES": ("batches", "/.+", Path),
     "WORDS": ("words", ".*", words),
@@ -113,7 +113,7 @@ WHAT = {
 
 
 def read_settings(machine: Machine, path: Path) -> Settings:
-    """The settings of an inbox; BadCall, which names the line, where they are wrong."""
+    """The settings of an inbox; raises BadCall, which names the line, if one is wrong."""
     found: dict[str, Any] = {}
     for name, (place, value) in read_lines(machine, path).items():
         if name not in READERS:
@@ -134,8 +134,7 @@ def read_settings(machine: Machine, path: Path) -> Settings:
 
 
 def terms_of(machine: Machine, path: Path, today: str) -> bytes:
-    """The table of terms that holds today: of the file, or of the latest FILE.YYYY-MM-DD beside it whose day has
-    come."""
+    """Today's table of terms: the file, or the latest FILE.YYYY-MM-DD beside it whose day has come."""
     dated = re.compile(re.escape(path.name) + r"\.[0-9]{4}-[0-9]{2}-[0-9]{2}").fullmatch
     last = f"{path.name}.{today[:4]}-{today[4:6]}-{today[6:]}"
     begun = [entry.name for entry in machine.entries(path.parent) if dated(entry.name) and entry.name <= last]

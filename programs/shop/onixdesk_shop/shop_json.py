@@ -1,5 +1,4 @@
-"""What desk.json says of the shop (docs/PAGE.md): one reader for all programs that need it. Of keys that nobody knows the
-page tells."""
+"""What desk.json says of the shop (docs/PAGE.md): one reader for all programs. The page reports unknown keys."""
 
 import json
 import re
@@ -15,8 +14,8 @@ PATTERNS = {"country": "[A-Z]{2}", "currency": "[A-Z]{3}", "price_type": "[0-9]{
 
 @dataclass(frozen=True)
 class Shop:
-    """For whom the desk is asked: `quantities` has at least one number of copies, `recommended_type` is empty if the
-    shop names none, `wholesalers` has the words for series. `given` is the whole object."""
+    """The shop's questions: `quantities` has at least one number of copies, `recommended_type` is empty if the shop
+    names none, `wholesalers` has their names by series. `given` is the whole object."""
 
     country: str
     currency: str
@@ -28,14 +27,14 @@ class Shop:
 
 
 def shop_of(given: Any) -> Shop:
-    """The shop that the object of desk.json has; ValueError, which names a key, if that is wrong."""
+    """The shop in the object of desk.json; raises ValueError, which names a key, if it is wrong."""
     texts = {key: given.get(key, "") for key in PATTERNS}
     for key, text in texts.items():
         if not isinstance(text, str) or not re.fullmatch(PATTERNS[key], text):
             raise ValueError(f"{key} is wrong, or missing")
     quantities = given.get("quantities") or [1]
     if not all(type(value) is int and 1 <= value <= 999_999 for value in quantities):
-        raise ValueError("quantities is no list of numbers of copies")
+        raise ValueError("quantities is not a list of numbers of copies")
     series = given.get("series", [])
     wholesalers = {str(item["name"]): str(item.get("words", item["name"])) for item in series}
     return Shop(**texts, quantities=quantities, wholesalers=wholesalers, given=given)

@@ -1,4 +1,4 @@
-"""The units of systemd that are of this desk."""
+"""The units of systemd that belong to this desk."""
 
 import re
 
@@ -9,21 +9,21 @@ from onixdesk_shop.machine import Machine
 DESK = "onixdesk.service"
 STATES = "--state=active,activating,reloading,deactivating,failed"
 
-# A shop's own unit of such a name, as of a second desk, is left alone.
+# A shop's own unit with such a name, as of a second desk, is left alone.
 OTHERS = "copy|fetch@.*|follow|inbox@.*|mail|prices"
 is_own = re.compile(rf"onixdesk(?:-(?:{OTHERS}))?\.(?:path|service|timer)").fullmatch
 
-# What goes on by itself; the services that these start are begun by them.
+# These units start others by themselves.
 BEGIN = (".timer", ".path")
 
 
 def is_begun(unit: str) -> bool:
-    """Whether it is one that is started again after it was stopped."""
+    """Whether a unit is started again after it was stopped."""
     return bool(is_own(unit)) and (unit == DESK or unit.endswith(BEGIN))
 
 
 class Units:
-    """Those that run, or have failed; none where no systemd does."""
+    """The units that run or have failed; none without systemd."""
 
     def __init__(self, machine: Machine) -> None:
         self.machine = machine
@@ -42,7 +42,7 @@ class Units:
         return [unit for unit in self.all if is_begun(unit)]
 
     def start(self, units: list[str]) -> bool:
-        """Starts these, the desk before the others. Whether all could be; what could not is told with its command."""
+        """Starts these, the desk first; returns whether all started, and reports the command of each that did not."""
         if DESK in units:
             units = [DESK, *(unit for unit in units if unit != DESK)]
         left = []

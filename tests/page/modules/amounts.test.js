@@ -1,4 +1,4 @@
-// Amounts. What is expected is how each language writes money, with the no-break space where it has one.
+// Amounts. Expected values are how each language writes money, with the no-break space if it has one.
 
 import assert from "node:assert/strict";
 import { afterEach, test } from "node:test";

@@ -1,4 +1,4 @@
-// What is ordered of a row by the desk's answer, and why a person should look at it. The answers are written by hand.
+// What a row orders by the desk's answer, and why a person should look at it. The answers are written by hand.
 
 import assert from "node:assert/strict";
 import { test } from "node:test";

@@ -1,4 +1,4 @@
-// The files that go to wholesalers, each in its own form. What is expected was written by hand.
+// Files for wholesalers, each in its own form. Expected values were written by hand.
 
 import assert from "node:assert/strict";
 import { test } from "node:test";

@@ -1,4 +1,4 @@
-// Days. What is expected is read from a printed calendar.
+// Days. Expected values are from a printed calendar.
 
 import assert from "node:assert/strict";
 import { test } from "node:test";

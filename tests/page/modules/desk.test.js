@@ -1,4 +1,4 @@
-// How often a desk that gives no answer is asked: never again by itself where a question may end it.
+// How often a desk without an answer is asked: never again by itself if a question may end it.
 
 import assert from "node:assert/strict";
 import { afterEach, beforeEach, test } from "node:test";
@@ -12,7 +12,7 @@ const UNKNOWN = [404, { answer: "refused", reason: "unknown-series" }];
 const LOST = [502, {}];
 
 let asked;
-// What is replied to a path, as a status and a body, or `undefined` where no reply comes at all.
+// The reply to a path, as a status and a body, or `undefined` for no reply.
 let replyTo;
 let told;
 
@@ -38,7 +38,7 @@ afterEach(() => {
 
 const watch = { down: (words) => told.push(words), up: () => told.push("up") };
 const askFor = (path, signal = new AbortController().signal) => ask(path, {}, signal, watch);
-/** Replies of a list, one after the other, and the last one from then on. */
+/** Replies of a list, one after the other, and then always the last one. */
 const inOrder = (replies) => () => (replies.length > 1 ? replies.shift() : replies[0]);
 
 test("a desk that is away is asked for something else until it is there, and once more then", async () => {
@@ -85,7 +85,7 @@ test("a web server that was asked too often is asked the same again", async () =
 });
 
 test("a question that ends the desk takes no other with it", async () => {
-  // From each question about the first article on, the desk is away for three questions.
+  // After each question about the first article, the desk is away for three questions.
   let away = 0;
   replyTo = (path) => {
     if (path.startsWith("articles/1/")) away = 4;

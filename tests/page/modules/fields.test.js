@@ -19,7 +19,7 @@ test("each wrong field has a problem of its own, and no value", () => {
   for (const words of Object.values(problems)) assert.match(words, /\w{3}/);
 });
 
-// The numbers of a pen, of a bar of chocolate and of a journal; and ISBNs whose last sign does not fit.
+// The numbers of a pen, of a bar of chocolate and of a journal; and ISBNs with wrong check digits.
 test("a wrong ISBN, and the bar code of other goods, are not asked for", () => {
   for (const isbn of ["4006381333931", "7622210449283", "9771234567003"]) assert.match(readAll({ isbn }).problems.isbn, /978 nor 979/);
   for (const isbn of ["9780306406158", "0306406153", "97803064061570", "abc"]) {

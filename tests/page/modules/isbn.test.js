@@ -1,4 +1,4 @@
-// ISBNs. The examples are those of the standard's manual and of books in print.
+// ISBNs. The examples are from the standard's manual and from books in print.
 
 import assert from "node:assert/strict";
 import { test } from "node:test";

@@ -1,11 +1,11 @@
-// Each module of the page is loaded without a browser, so that none names what another one does not have; and what no browser
-// tells of a sheet.
+// Loads each module of the page without a browser, so that none imports what another one does not have; and checks
+// sheets for what no browser reports.
 
 import assert from "node:assert/strict";
 import { readdirSync, readFileSync } from "node:fs";
 import { test } from "node:test";
 
-// It begins the page where it is loaded.
+// This one starts the page when it is loaded.
 const FIRST = "main.js";
 
 const FILES = readdirSync("../page", { recursive: true }).filter((name) => name.endsWith(".js") && name !== FIRST);

@@ -1,5 +1,5 @@
-// Whatever is pasted, what is ordered is the sum of the text's good lines, and no line is lost or made. The texts are drawn
-// by a seed; what they should give is told by how they were made.
+// Whatever is pasted, the orders are the sum of the text's good lines, and no line is lost or added. The texts are
+// drawn by a seed; the way they were made gives the expected values.
 
 import assert from "node:assert/strict";
 import { test } from "node:test";
@@ -25,7 +25,7 @@ const below = (most) => Math.floor(drawn.next().value * most);
 const oneOf = (list) => list[below(list.length)];
 const many = (most, make) => Array.from({ length: below(most) }, make);
 
-/** An ISBN of thirteen digits by a number, with the digit that belongs behind it. */
+/** An ISBN-13 made of a number, with its check digit. */
 function isbnAt(number) {
   const digits = `97801400${String(number).padStart(4, "0")}`;
   const sum = [...digits].reduce((total, digit, at) => total + Number(digit) * (at % 2 === 0 ? 1 : 3), 0);
@@ -34,7 +34,7 @@ function isbnAt(number) {
 
 const hyphenated = (isbn) => isbn.replace(/^(...)(.)(..)(......)(.)$/, "$1-$2-$3-$4-$5");
 
-/** A line that is good, with what it orders. */
+/** A good line, with what it orders. */
 function goodLine() {
   const [isbn, copies] = [isbnAt(below(12)), oneOf([1, 2, 3, 12, 9999])];
   const written = oneOf([isbn, hyphenated(isbn), `ISBN: ${isbn}`, `ISBN ${hyphenated(isbn)}`]);
@@ -55,7 +55,7 @@ function otherLine() {
   ]);
 }
 
-/** What texts of ISBN, copies and wholesaler sum up to. */
+/** The sums of texts of ISBN, copies and wholesaler. */
 function sums(all) {
   const found = {};
   for (const { isbn, series = "", copies } of all) {
@@ -80,7 +80,7 @@ test("what a text orders is the sum of its good lines, and every other line is m
     const after = struck(text, numbersOf);
     assert.deepEqual(orderedOf(after), sums(good), after);
     assert.equal(markedOf(linesOf(after)).length, 0, after);
-    // A line with something like an ISBN is told of after saving.
+    // A line with something like an ISBN is listed after saving.
     const books = [...others, ...struckLines].filter((line) => /\d{6}|E\+/.test(line));
     assert.equal(struckBooks(linesOf(after)).length, books.length, after);
   }
@@ -128,7 +128,7 @@ const quoted = (cell, separator) => (
   cell.includes(separator) || cell.startsWith('"') || below(5) === 0 ? `"${cell.replaceAll('"', '""')}"` : cell
 );
 
-/** A row of a table of an ISBN, a title, copies and stock, with what it orders; `undefined` where it orders nothing. */
+/** A row of a table of an ISBN, a title, copies and stock, with what it orders; `undefined` if it orders nothing. */
 function row(separator) {
   const isbn = isbnAt(below(12));
   const copies = oneOf(["1", "3", "12", "0", "", "2,0", "2 Stk", "-1", "007", "12345"]);
@@ -146,7 +146,7 @@ test("of a table each row is a line, one of 0 copies that is counted, or its hea
     const separator = oneOf(SEPARATORS);
     const all = Array.from({ length: 14 }, () => row(separator)).filter(({ text }) => /[^\s,;"]/.test(text));
     const rows = parse(["ISBN", "Title", "Order", "Stock"].join(separator) + "\n" + all.map(({ text }) => text).join("\n"), separator);
-    // A row that has a word for its copies, and no book, is the heading of another table.
+    // A row with a word for its copies, and no book, is the heading of another table.
     const [end] = [all.findIndex(({ isEnd }) => isEnd), all.length].filter((at) => at >= 0);
     const whole = all.slice(0, end);
     if (widthOf(rows) !== 4) continue;

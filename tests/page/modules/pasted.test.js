@@ -1,5 +1,5 @@
-// What is pasted, what the buyer names of it, the lines that it becomes, and the bytes that are saved for the wholesaler
-// `north`, which the rules take for each book. The cases were written by hand.
+// What is pasted, which columns the buyer names, the lines that it becomes, and the bytes that are saved for the
+// wholesaler `north`, which the rules take for each book. The cases were written by hand.
 
 import assert from "node:assert/strict";
 import { readFileSync } from "node:fs";
@@ -18,7 +18,7 @@ const SHOP = { manyCopies: 50, type: "05", confirmed: new Set(), changes: new Ma
 const FORM = { columns: ["isbn", "copies"], heading: false, separator: ",", byte_order_mark: false };
 const CONTEXT = { settings: { series: [{ name: "north", words: "North", csv: FORM }], currency: "GBP" }, order: "" };
 
-/** The lines that pasted text becomes by the columns that a buyer names, one table after the other. */
+/** The lines of pasted text, by the columns that a buyer names, one table after the other. */
 function linesFrom({ pasted, tables = [] }) {
   if (!isTable(pasted)) return pasted;
   let rows = parse(pasted, separatorIn(pasted));

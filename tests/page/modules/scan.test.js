@@ -1,4 +1,4 @@
-// Bar codes, told from what is typed by how quickly their digits come.
+// Bar codes, told from typing by the speed of their digits.
 
 import assert from "node:assert/strict";
 import { test } from "node:test";

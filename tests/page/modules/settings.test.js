@@ -1,4 +1,4 @@
-// desk.json: what is right of it is used, and what is wrong is told.
+// desk.json: right values are used, and wrong ones reported.
 
 import assert from "node:assert/strict";
 import { readFileSync } from "node:fs";

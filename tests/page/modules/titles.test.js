@@ -1,4 +1,4 @@
-// Titles beside the desk's answers. The files are written by hand, as docs/INBOX.md has their form.
+// Titles beside the desk's answers. The files are written by hand, in the form of docs/INBOX.md.
 
 import assert from "node:assert/strict";
 import { afterEach, beforeEach, test } from "node:test";

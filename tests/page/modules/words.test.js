@@ -1,4 +1,4 @@
-// The words of each language that the page brings along.
+// The words of each language of the page.
 
 import assert from "node:assert/strict";
 import { readdirSync, readFileSync } from "node:fs";
@@ -29,7 +29,7 @@ test("German has each text that English has, with the same in braces", () => {
 test("no text is empty, and German is not English, nor calls a message by two words", () => {
   for (const [path, text] of [...textsOf(en), ...textsOf(de)]) assert.match(text, /^(?!.*Nachricht).*\S/s, path);
   const english = Object.fromEntries(textsOf(en));
-  // What is a name, a sign or a form for numbers alone may be the same.
+  // Names, signs and forms for numbers may be the same in both.
   const same = textsOf(de).filter(([path, text]) => text === english[path] && /[a-z]{3}/.test(text.replaceAll(/\{\w+\}/g, "")));
   assert.deepEqual(same.map(([path]) => path), ["page.name"]);
 });

@@ -1,5 +1,5 @@
-"""A desk that is given no more memory, as by LimitDATA of its unit: an answer that wants more is a fault, nothing is
-lost, and the next question is answered."""
+"""A desk with bounded memory, as by LimitDATA of its unit: an answer that needs more is a fault, nothing is lost, and
+the next question is answered."""
 
 import json
 import resource
@@ -25,16 +25,16 @@ MEMORY = '503 {"answer":"fault","reason":"memory"}'
 # Together offers of one article whose calendar has some 2.7 MB.
 MESSAGES, PRODUCTS = 4, 4_999
 
-# What the desk may have more than it has at the start.
+# How much more memory the desk may have than at its start.
 MORE = 2_000_000
 
-# How many bytes an offer a price and a choice may take, with what their lists grow into. A list of all offers takes
+# How many bytes an offer a price and a choice may take, including how their lists grow. A list of all offers takes
 # more, as a calendar does.
 ANSWERED = 450
 
 
 def offers(number: int) -> bytes:
-    """A message of as many products as one has room for."""
+    """A message of as many products as fit."""
     lines = [f"Message,1,06,4012345000009,06,5012345678900,{number},1,20250301,02,GBP"]
     for product in range(PRODUCTS):
         lines += [
@@ -97,7 +97,7 @@ def want_of_memory(room: Room) -> Iterator[Outcome]:
 
 
 def offers_that_are_not_held(room: Room) -> Iterator[Outcome]:
-    """A price and a choice have no room for the offers of the article, and want none."""
+    """A price and a choice have no room for the article's offers, and need none."""
     batch(room, AGREEMENT + b"".join(offers(number) for number in range(1, MESSAGES + 1)))
     room.write("rules.toml", b'[[rule]]\nseries = "*"\ncodes = ["21"]\n')
     with serving(room, [*WORDS, "--rules", "rules.toml"], 3) as desk:

@@ -1,5 +1,4 @@
-"""Inputs of which a read fails behind some byte, outputs that take part of
-the answers, and disks that are full."""
+"""Inputs of which a read fails after some byte, outputs that take part of the answers, and full disks."""
 
 import os
 import socket
@@ -38,14 +37,13 @@ ONE_APPLIED = Ran(0, b"gaps,north,first=1,next=2,greatest=1,held=0,missing=0\n")
 
 OVER_A_FILE = "--db", DATABASE, "batch"
 
-# No file may grow beyond so many blocks of 512 bytes, where it is said so.
+# If given, no file may grow beyond so many blocks of 512 bytes.
 BLOCKS = 8192
 MOST_BYTES = BLOCKS * 512
 
 
 def failing_behind(text: bytes) -> socket.socket:
-    """An input of this text, of which the next read fails: who wrote it has closed its end and left a byte
-    unread there."""
+    """An input with this text, whose next read fails: its writer has closed its end and left a byte unread there."""
     writer, reader = socket.socketpair()
     with writer:
         reader.sendall(b"a")
@@ -54,8 +52,8 @@ def failing_behind(text: bytes) -> socket.socket:
 
 
 def unread_batches(room: Room) -> Iterator[Outcome]:
-    """With a failed read behind each byte. Nothing is asked of the desk in a file, not the agreement either,
-    which would stand in it from then on."""
+    """With a failed read after each byte. Nothing is asked of the desk in a file, not the agreement either, which would
+    be in it from then on."""
     for given in range(len(BATCH) + 1):
         with failing_behind(BATCH[:given]) as reader:
             came = room.call([room.program, *OVER_A_FILE], reader.fileno())
@@ -65,7 +63,7 @@ def unread_batches(room: Room) -> Iterator[Outcome]:
 
 
 class Limited(Room):
-    """The same room, where no file may grow beyond so many blocks: a write behind them fails."""
+    """The same room, where no file may grow beyond so many blocks: a write beyond them fails."""
 
     def __init__(self, room: Room, blocks: int) -> None:
         super().__init__(Path("/bin/sh"), room.folder)
@@ -80,8 +78,8 @@ class Limited(Room):
 
 
 def taken_answers(room: Room, count: int) -> tuple[Ran, bytes]:
-    """How a batch ends whose output takes so many bytes, and these: the output is a file that can grow by
-    them alone."""
+    """How a batch ends whose output takes so many bytes, and these bytes: the output is a file that can grow only by
+    them."""
     limited = Limited(room, BLOCKS)
     words: list[Word] = [limited.program, *limited.before, *OVER_A_FILE]
     start = MOST_BYTES - count
@@ -93,8 +91,8 @@ def taken_answers(room: Room, count: int) -> tuple[Ran, bytes]:
 
 
 def written_in_parts(room: Room) -> Iterator[Outcome]:
-    """With outputs that take each part of the answers: they are written, and the requests up to the answer
-    that they end in are asked, and no other."""
+    """Outputs take each part of the answers: that part is written, and the requests up to the answer where it ends are
+    asked, and no others."""
     room.write("batch", BATCH)
     for count in range(len(ANSWERS)):
         for file in room.folder.glob(f"{DATABASE}*"):
@@ -107,8 +105,8 @@ def written_in_parts(room: Room) -> Iterator[Outcome]:
 
 
 def unread_deliveries(room: Room) -> Iterator[Outcome]:
-    """Connections that are reset behind each byte of a delivery. Nothing is delivered, and then the whole
-    delivery has its reply."""
+    """Connections are reset after each byte of a delivery. Nothing is delivered, and then the whole delivery gets its
+    reply."""
     answers = b"agreed,north,1\nagreed,south,5\nwaived,south,7\n"
     yield Outcome("the agreements before resets", batch(room, AGREEMENTS), Ran(0, answers))
     text = DELIVERY.input
@@ -134,8 +132,8 @@ LARGE = f"Message,1,06,4012345000009,06,5012345678900,1,,,,\n{PRODUCTS}EndMessag
 
 
 def full_disks(room: Room) -> Iterator[Outcome]:
-    """A request for which the disk has no room is answered by a fault, and nothing of it is kept; it may be
-    sent again once there is room."""
+    """A request for which the disk has no room is answered by a fault, and none of it is kept; it may be sent again
+    once there is room."""
     full = Limited(room, FULL)
     yield Outcome("the agreement before the full disk", batch(full, AGREEMENT), Ran(0, AGREED))
     fault = Ran(3, b"", b"onixdesk: storage: disk\n")
@@ -154,7 +152,7 @@ def full_disks(room: Room) -> Iterator[Outcome]:
 
 
 def large(number: int) -> bytes:
-    """A message that takes more than so many blocks, and whose records no other has."""
+    """A message that takes more than so many blocks, and whose records no other message has."""
     return LARGE.replace("78900,1,", f"78900,{number},").replace("Product,R", f"Product,R{number}-").encode()
 
 
@@ -165,8 +163,8 @@ def changed(number: int, article: str) -> bytes:
 
 
 def a_file_that_cannot_be_closed(room: Room) -> Iterator[Outcome]:
-    """The log cannot be copied into the file, which is longer than it may be: one line tells it, also where a request
-    before that met the full disk. What was answered is in the log."""
+    """The log cannot be copied into the file, which is longer than allowed: one line reports it, even if a request
+    before met the full disk. What was answered is in the log."""
     yield Outcome("a large file", batch(room, AGREEMENT + large(1)), Ran(0, AGREED + applied(1, RECORDS)))
     size = room.path(DATABASE).stat().st_size
     yield Outcome("a large file: it is longer than it may be", size > FULL * 512, True)
@@ -182,8 +180,7 @@ def a_file_that_cannot_be_closed(room: Room) -> Iterator[Outcome]:
 
 
 def a_fault_within_a_batch(room: Room) -> Iterator[Outcome]:
-    """At an open desk the batch ends there, and what is answered before it and behind it is kept, whatever
-    ends the program."""
+    """At an open desk the batch ends there; answers before it and after it are kept, however the program ends."""
     full = Limited(room, FULL)
     with serving(full, ["--db", DATABASE], None, ["--batches", SOCKET]) as desk:
         text = AGREEMENT + LARGE.encode() + OTHER_AGREEMENT

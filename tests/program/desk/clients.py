@@ -1,5 +1,5 @@
-"""Clients of a port that close early, fall silent, send more than they said or less, how a port is written, and one
-whose lines cannot be written."""
+"""Clients of a port that close early, fall silent, send more than they announced or less; how a port is written; and a
+desk whose lines cannot be written."""
 
 import contextlib
 import signal
@@ -19,8 +19,7 @@ from tools.words import sought
 
 
 class Client(NamedTuple):
-    """What a client sends, whether it then closes its connection, and the line of it that the desk
-    writes."""
+    """What a client sends, whether it then closes its connection, and the line that the desk writes for it."""
 
     sends: bytes
     closes: bool
@@ -46,7 +45,7 @@ GAPS = Exchange(
 )
 
 
-# How many connections are served by a desk that has no number of them.
+# How many connections are served by a desk without a limit.
 UNENDED = 40
 
 
@@ -70,12 +69,12 @@ GAPS_AFTER_TWO = GAPS._replace(
     body='{"answer":"gaps","first":1,"greatest":2,"held":0,"missing":[],"next":3,"series":"north"}',
 )
 
-# An end of a connection that waits for nothing, and tells the other side that it is reset.
+# An end of a connection that waits for nothing, and resets the other side.
 RESET = struct.pack("ii", 1, 0)
 
 
 def clients_that_are_gone(room: Room) -> Iterator[Outcome]:
-    """What they sent counts, though they closed their connections before their turn came."""
+    """What they sent counts, though they closed their connections before their turn."""
     yield Outcome("the agreement", batch(room, AGREEMENT), Ran(0, AGREED))
     with serving(room, ["--db", DATABASE], 5) as desk:
         first, whole, reset, part = [connected(desk.port) for _ in range(4)]
@@ -113,13 +112,13 @@ SHORT = Exchange("a short body", b"", "400 Bad Request", '{"answer":"refused","r
 
 
 def most_memory(desk: Serving) -> int:
-    """The most bytes of memory that the desk has had at once."""
+    """The peak memory of the desk, in bytes."""
     status = Path(f"/proc/{desk.process.pid}/status").read_text()
     return 1024 * int(sought(r"^VmHWM:\s*([0-9]+) kB", status))
 
 
 def bodies_that_do_not_come(room: Room) -> Iterator[Outcome]:
-    """A client takes memory for the bytes that it sends, and none for those that it only says."""
+    """A client takes memory for the bytes that it sends, not for those that it announces."""
     head = b"POST /messages HTTP/1.1\r\nContent-Length: %d\r\n\r\n" % LARGEST
     with serving(room, [], 4) as desk:
         desk.reply([GAPS.input])
@@ -136,7 +135,7 @@ def bodies_that_do_not_come(room: Room) -> Iterator[Outcome]:
 
 
 def unwritten_lines(room: Room) -> Iterator[Outcome]:
-    """The desk ends before it serves a client, where it cannot say that it listens."""
+    """The desk ends before it serves a client if it cannot say that it listens."""
     wanted = Ran(3, b"", b"onixdesk: output\n")
     for _ in range(TRIES):
         words = "serve", "--port", str(free_port()), "--requests", "1"

@@ -1,4 +1,4 @@
-"""Command lines, each by what stands behind the program's name."""
+"""Command lines, each by what follows the program's name."""
 
 from collections.abc import Iterator
 
@@ -10,8 +10,7 @@ REFUSED, HELP = (case.text.split("\n") for case in read_file(TESTS / "refusals/c
 
 
 def seen(ran: Ran) -> dict[str, int | bool]:
-    """What a command line is judged by: its status, where it printed, and whether that is a fault of
-    the program's own."""
+    """How a command line is judged: its status, where it printed, and whether that is the program's own fault."""
     return {
         "status": ran.status,
         "printed": ran.output != b"",
@@ -47,7 +46,7 @@ COMMANDS = "agreements batch check convert deliver export gaps migrate rules ser
 
 
 def helps(room: Room) -> Iterator[Outcome]:
-    """The help of the program names each command, whose own help says how it is used."""
+    """The program's help names each command, whose own help says how to use it."""
     came = room.run("--help")
     named = [line.split()[0] for line in came.output.decode().splitlines() if line.startswith("  ") and line[2] != " "]
     yield Outcome("help: the commands", (came.status, named[: len(COMMANDS) + 1]), (0, [*COMMANDS, "help"]))

@@ -9,7 +9,7 @@ from tests.program.messages import AGREED, AGREEMENT, applied, bare, held, price
 from tests.program.room import UNREADABLE, Group, Ran, Room
 from tests.running import Outcome
 
-# The file that holds the text of a case.
+# The file with the text of a case.
 FILE = "message.csv"
 
 # Message 1 of the series `north`, and its answer.
@@ -26,8 +26,7 @@ SECOND_APPLIED = applied(2)
 
 
 class Delivery(NamedTuple):
-    """A text, the files that are delivered, what comes of it where `north` is agreed, and the standard
-    input."""
+    """A text, the delivered files, the result at a desk with `north`, and the standard input."""
 
     name: str
     text: bytes

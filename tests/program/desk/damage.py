@@ -1,5 +1,5 @@
-"""Files in which another program has left values that no desk has: the request that meets one is answered
-by a fault and nothing of it is kept, and once the value is put right the desk goes on."""
+"""Files in which another program left values that no desk has: a request that meets one is answered by a fault, none of
+it is kept, and once the value is put right the desk goes on."""
 
 import sqlite3
 from collections.abc import Iterator
@@ -12,13 +12,13 @@ from tests.program.room import Group, Ran, Room
 from tests.program.written_cases import read_file
 from tests.running import Outcome
 
-# What the desk is asked before, and what it answers.
+# What the desk is asked before, and its answers.
 BEFORE = (
     AGREEMENT + priced(1, "R1", "12.99") + bare(3) + bare(4),
     AGREED + applied(1, 1) + held(3, 2) + held(4, 2),
 )
 
-# What is asked, and what is answered where no value is bad, by the name of the case.
+# The question, and its answer without a bad value, by the name of the case.
 QUESTIONS: dict[str, tuple[bytes, bytes]] = {}
 
 # A statement that leaves a bad value, one that puts it right, and the name of the case.
@@ -34,7 +34,7 @@ FAULT = Ran(3, b"", b"onixdesk: storage: unusable\n")
 
 
 def dump(room: Room) -> list[str]:
-    """All that is in the file, as statements."""
+    """The whole file, as statements."""
     with closing(sqlite3.connect(room.path(DATABASE))) as connection:
         return list(connection.iterdump())
 

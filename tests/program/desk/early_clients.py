@@ -14,7 +14,7 @@ from tests.program.room import SECONDS, UNREADABLE, Ran, Room
 from tests.program.serving import HOST, free_port, got, receive, send
 from tests.running import Outcome
 
-# Two messages of so many records take a part of a second to be checked.
+# Two messages of so many records take a part of a second to check.
 RECORDS = 10_000
 PRODUCTS = "".join(f"Product,R{number},03,15,9781234567897\n" for number in range(RECORDS))
 
@@ -28,7 +28,7 @@ UNUSABLE = Ran(3, b"", b"onixdesk: storage: unusable\n")
 
 
 def large(number: int) -> bytes:
-    """A message whose records no other has."""
+    """A message whose records no other message has."""
     products = PRODUCTS.replace("Product,R", f"Product,R{number}-")
     return f"Message,1,06,4012345000009,06,5012345678900,{number},,,,\n{products}EndMessage,{RECORDS + 1}\n".encode()
 
@@ -56,7 +56,7 @@ def taken_by(port: int) -> str | None:
 
 
 def wait_in_line(room: Room) -> Iterator[Outcome]:
-    """The desk is stopped as soon as a client is connected, before it has said that it listens."""
+    """The desk is stopped as soon as a client is connected, before it says that it listens."""
     for text, answer in (
         (AGREEMENT, b"agreed,north,1\n"),
         (large(1), applied(1, RECORDS)),
@@ -84,7 +84,7 @@ def wait_in_line(room: Room) -> Iterator[Outcome]:
 
 
 def a_database_comes_first(room: Room) -> Iterator[Outcome]:
-    """Where both cannot be had, the fault is the database's."""
+    """If neither can be had, the fault is the database's."""
     room.write("letter.db", b"Dear bookseller")
     with contextlib.closing(socket.create_server((HOST, 0))) as listener:
         port = listener.getsockname()[1]

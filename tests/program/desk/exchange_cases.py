@@ -11,7 +11,7 @@ from collections.abc import Iterator
 from tests.program.serving import Exchange, got, posted
 from tests.program.written_cases import TESTS, read_file, repeated, unescaped
 
-# The agreements of the desk: `north` from number 1 on, and `south` from number 5 on, of which 7 is waived.
+# The agreements of the desk: `north` from number 1 on, and `south` from number 5 on, with 7 waived.
 AGREEMENTS = b"""\
 Agree,north,06,4012345000009,06,5012345678900,1
 Agree,south,06,5000000000005,06,5012345678900,5
@@ -26,7 +26,7 @@ def refusal(reason: str) -> str:
 
 
 def exchanges(name: str) -> Iterator[Exchange]:
-    """Messages that are posted, and targets that are got."""
+    """Messages to post, and targets to get."""
     for case in read_file(TESTS / f"exchanges/{name}.txt"):
         [(line, body)] = case.parts
         if case.text.startswith("/"):
@@ -57,13 +57,13 @@ APPLIED = (
     b'{"answer":"applied","deleted":0,"ignored":0,"number":1,"replaced":0,"series":"north","unknown":0,"updated":0}'
 )
 
-# The whole text of the reply to a method that is not the path's.
+# The whole text of the reply to a method that the path does not have.
 NOT_ALLOWED = (
     b"HTTP/1.1 405 Method Not Allowed\r\nAllow: POST\r\nContent-Type: application/json\r\nContent-Length: 50\r\n"
     b'Connection: close\r\n\r\n{"answer":"refused","reason":"method-not-allowed"}'
 )
 
-# A question to which no delivery changes the answer but one that is taken.
+# A question whose answer only a successful delivery changes.
 NO_NUMBERS = got(
     "/series/north/gaps",
     "200 OK",
@@ -73,5 +73,5 @@ NO_NUMBERS = got(
 # The same after that delivery.
 ONE_NUMBER = NO_NUMBERS._replace(body=NO_NUMBERS.body.replace('":null', '":1').replace('"next":1', '"next":2'))
 
-# What a client sends that keeps its end open: no byte behind the request is waited for.
+# What a client sends that keeps its end open: the desk waits for no byte after the request.
 OPEN_INPUTS = [DELIVERY, Exchange("a bad head", b"FOO\r\n\r\n", "400 Bad Request", refusal("bad-head"))]

@@ -1,5 +1,5 @@
-"""Exchanges over real sockets with one run of `serve` for each group, over a database that a batch has
-prepared. What is sent and replied stands in `exchange_cases`."""
+"""Exchanges over real sockets with one run of `serve` for each group, over a database that a batch prepared.
+`exchange_cases` has what is sent and replied."""
 
 from collections.abc import Callable, Iterator
 from functools import partial
@@ -45,7 +45,7 @@ Way = Callable[[Exchange], list[bytes]]
 
 
 def all_replied(exchanges: list[Exchange], ways: list[Way], room: Room) -> Iterator[Outcome]:
-    """Each exchange is as it is to be, whichever way its input comes, and so once more."""
+    """Each exchange gives the expected reply, however its input comes, and once more."""
     yield agreed(room)
     with serving(room, WORDS, len(exchanges) * len(ways)) as desk:
         for exchange in exchanges:
@@ -56,7 +56,7 @@ def all_replied(exchanges: list[Exchange], ways: list[Way], room: Room) -> Itera
 
 
 def cut_inputs() -> list[Exchange]:
-    """A delivery that is cut off behind each of its bytes. Nothing is delivered."""
+    """A delivery is cut off after each of its bytes. Nothing is delivered."""
     text = DELIVERY.input
     head = text.index(b"\r\n\r\n") + len(b"\r\n\r\n")
     cut = [
@@ -100,7 +100,7 @@ def in_turn(desk: Serving, exchanges: list[Exchange]) -> Iterator[Outcome]:
 
 
 def a_waived_number(room: Room) -> Iterator[Outcome]:
-    """It is waived by a batch, since no request over HTTP waives one."""
+    """A batch waives it, since no request over HTTP does."""
     yield agreed(room)
     before, after = [DELIVERY, *exchanges("before-a-waiver")], [*exchanges("after-a-waiver")]
     with serving(room, WORDS, len(before)) as desk:

@@ -1,4 +1,4 @@
-"""The option `--existing`: a database file that is missing is a fault, and none is made."""
+"""The option `--existing`: a missing database file is a fault, and none is made."""
 
 from collections.abc import Iterator
 from functools import partial
@@ -12,7 +12,7 @@ from tests.running import Outcome
 
 UNUSABLE = Ran(3, b"", b"onixdesk: storage: unusable\n")
 
-# The commands, each over a database that is missing. None of them meets what it would meet first itself.
+# The commands, each over a missing database. None of them reaches its own first fault.
 COMMANDS = ["batch", "deliver absent.csv", "gaps north", "migrate", "serve --port 1 --requests 1", "serve --port 1"]
 
 EXISTING = ["--db", DATABASE, "--existing"]
@@ -28,7 +28,7 @@ def is_missing(command: str, room: Room) -> Iterator[Outcome]:
 
 
 def is_a_link_to_nothing(room: Room) -> Iterator[Outcome]:
-    """What the link names is missing, and is not made either."""
+    """The link's target is missing, and is not made either."""
     room.path(DATABASE).symlink_to("other.db")
     for command in "batch", "migrate":
         came = room.run(*EXISTING, command, given=UNREADABLE)

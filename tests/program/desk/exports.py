@@ -1,4 +1,4 @@
-"""What the commands write that list what a desk in a file holds: `export`, `agreements`, and `gaps` of all series."""
+"""The commands that list the desk in a file: `export`, `agreements`, and `gaps` of all series."""
 
 from collections.abc import Iterator
 
@@ -19,7 +19,7 @@ def text_of(name: str) -> bytes:
 # contents of number 4 and the number before the first are refused.
 REQUESTS, ANSWERS = text_of("requests"), text_of("answers")
 
-# The same desk, series by series and number by number, and what a new desk answers to that.
+# The same desk, series by series and number by number, and a new desk's answers to that.
 EXPORT, AGAIN = text_of("export"), text_of("answers-to-export")
 
 GAPS = text_of("gaps")
@@ -32,7 +32,7 @@ def listed(room: Room, command: str, database: str = DATABASE) -> Ran:
 
 
 def lists(room: Room) -> Iterator[Outcome]:
-    """Each list, behind which the rows of the file are what they were."""
+    """Each list leaves the rows of the file as they were."""
     yield Outcome("lists: the requests", batch(room, REQUESTS), Ran(1, ANSWERS))
     rows = all_rows(room)
     for command, text in LISTS.items():
@@ -44,7 +44,7 @@ def lists(room: Room) -> Iterator[Outcome]:
 
 
 def again(room: Room) -> Iterator[Outcome]:
-    """A new desk that is given an export has it again, and answers a further message as the first one."""
+    """A new desk gives a text back that it was given as an export, and answers a further message as the first desk."""
     batch(room, REQUESTS)
     room.write("desk.csv", listed(room, "export").output)
     came = room.run("--db", "again.db", "batch", given=room.path("desk.csv").read_bytes())
@@ -78,7 +78,7 @@ def cut_between_requests(room: Room) -> Iterator[Outcome]:
 
 
 def empty_desks(room: Room) -> Iterator[Outcome]:
-    """A new desk has nothing to list, and one in memory is none that could be listed."""
+    """A new desk has nothing to list, and a desk in memory cannot be listed."""
     batch(room, b"")
     for command in LISTS:
         yield Outcome(f"an empty desk: {command}", listed(room, command), Ran(0))
@@ -88,8 +88,8 @@ def empty_desks(room: Room) -> Iterator[Outcome]:
 
 
 def too_large(room: Room) -> Iterator[Outcome]:
-    """A message that comes with quotation marks outside of quotes is longer with them: here each product has 100
-    of them in its reference, so that the message comes with less than 4,194,304 bytes and is written with more."""
+    """A message with quotation marks outside quotes is longer when written: here each product has 100 of them in its
+    reference, so that the message comes with less than 4,194,304 bytes and is written with more."""
     marks = '"' * 100
     products = "".join(f"Product,R{place}{marks},05,15,9781234567897\n" for place in range(19_998))
     agreement = "Agree,north,06,4012345000009,06,5012345678900,1\n"

@@ -38,7 +38,7 @@ def long_and_bad_inputs(room: Room) -> Iterator[Outcome]:
 
 
 def largest_record(room: Room) -> Iterator[Outcome]:
-    """A message of 20,000 records that has one product, in a file, from which another run reads it."""
+    """A message of 20,000 records with one product, in a file, from which another run reads it."""
     supply = b"ProductSupply,GB IE,,\n" + b"SupplyDetail,04,06,4012345000009,North Books,21,\n" * 19_996
     came = batch(room, AGREEMENT + OPENING + PRODUCT + supply + b"EndMessage,19999\n")
     yield Outcome("the largest record", came, Ran(0, AGREED + applied(1, 1)))
@@ -48,7 +48,7 @@ def largest_record(room: Room) -> Iterator[Outcome]:
 
 
 def unended_input(room: Room) -> Iterator[Outcome]:
-    """A text above the limit is read to one byte past it, and its end is not waited for."""
+    """A text above the limit is read to one byte past it, without waiting for its end."""
     with room.start("batch", stdin=subprocess.PIPE) as process:
         try:
             assert process.stdin and process.stdout and process.stderr

@@ -1,5 +1,5 @@
-"""A desk with rows that a run leaves as they were: one that ends with status 3 before anything is asked, or
-whose answer cannot be written. So it is with a migration whose line cannot be written."""
+"""Runs that leave a desk's rows as they were: those that end with status 3 before anything is asked, or whose answer
+cannot be written; and a migration whose line cannot be written."""
 
 from collections.abc import Iterator
 from functools import partial
@@ -31,7 +31,7 @@ FAULTS = [
 
 
 def stays(room: Room, name: str, ran: Ran, wanted: Ran, before: object) -> Iterator[Outcome]:
-    """The run ended so, and the rows are what they were."""
+    """The run ended so, and the rows are as they were."""
     yield Outcome(name, ran, wanted)
     yield Outcome(f"{name}: the rows", (complaints(room), all_rows(room)), ([], before))
 
@@ -45,7 +45,7 @@ def after_a_fault(fault: Fault, room: Room) -> Iterator[Outcome]:
 
 
 def migrated_unwritten(case: Case, room: Room) -> Iterator[Outcome]:
-    """The file is migrated, and what stood in it stands in version 2."""
+    """The file is migrated, with its contents in version 2."""
     execute(room, case.made)
     kept = all_rows(room) | {"meta": [("version", 2)], "price_minimum": []}
     for name in "unwritten", "unwritten again":

@@ -16,7 +16,7 @@ MISTAKES = read_file(TESTS / "refusals/requests.txt")
 # A batch without a mistake.
 RIGHT = b"Agree,north,06,4012345000009,06,5012345678900,1\nAskGaps,north\n"
 
-# How many lines a run writes of requests that are malformed.
+# How many lines on malformed requests a run writes.
 MOST = 100
 
 
@@ -26,7 +26,7 @@ def line(why: str, name: str = "") -> bytes:
 
 
 def checked(room: Room) -> Iterator[Outcome]:
-    """`check` says of each mistake which field of which line is wrong, and why."""
+    """`check` says for each mistake which field of which line is wrong, and why."""
     for case in MISTAKES:
         room.write("requests.csv", case.text.encode())
         wanted = Ran(1, b"", line(case.name, "requests.csv: "))
@@ -34,7 +34,7 @@ def checked(room: Room) -> Iterator[Outcome]:
 
 
 def answered(room: Room) -> Iterator[Outcome]:
-    """`batch` says it behind its answers, which are those of before."""
+    """`batch` says it after its answers, which are the same as before."""
     for case in MISTAKES:
         came = room.told("batch", given=case.text.encode())
         said = came.status, b"refused,malformed," in came.output, came.errors
@@ -42,7 +42,7 @@ def answered(room: Room) -> Iterator[Outcome]:
 
 
 # A batch with right and wrong pieces, and how the lines on the wrong ones begin: one of two records, an empty line
-# behind it, one with a line break in a field, a message, and one behind the message.
+# after it, one with a line break in a field, a message, and one after the message.
 MIXED = b"""Agree,north,06,4012345000009,06,5012345678900,1
 AskGaps
 more,1
@@ -64,7 +64,7 @@ def begin(lines: bytes) -> bool:
 
 
 def mixed(room: Room) -> Iterator[Outcome]:
-    """The lines come in the order of the text: of `check`, of `batch`, of who sends a batch, and of the desk."""
+    """The lines come in the order of the text: those of `check`, `batch`, a batch's sender, and the desk."""
     checked = room.told("check", "-", given=MIXED)
     yield Outcome("mixed: checked", begin(checked.errors.replace(b"onixdesk: -: ", b"onixdesk: ")), True)
     came = room.told("--db", DATABASE, "batch", given=MIXED)
@@ -76,7 +76,7 @@ def mixed(room: Room) -> Iterator[Outcome]:
 
 
 def right_texts(room: Room) -> Iterator[Outcome]:
-    """Of what is right nothing is said, of several files each by its name, and of standard input by `-`."""
+    """Nothing is said of right requests; several files are named, standard input as `-`."""
     room.write("right.csv", RIGHT)
     room.write("wrong.csv", RIGHT + b"AskGaps\n")
     room.write("empty.csv", b"")
@@ -90,14 +90,14 @@ def right_texts(room: Room) -> Iterator[Outcome]:
 
 
 def unread_texts(room: Room) -> Iterator[Outcome]:
-    """What cannot be read ends the run with 3, behind the lines of what was read."""
+    """If something cannot be read, the run ends with 3, after the lines of what was read."""
     none = room.told("check", "none.csv")
     yield Outcome("checked: no file", (none.status, none.errors.splitlines()[0]), (3, b"onixdesk: file: none.csv"))
     yield Outcome("checked: no name", room.told("check").status, 2)
 
 
 def many_mistakes(room: Room) -> Iterator[Outcome]:
-    """Of more than 100 the others are counted."""
+    """Beyond 100 the others are counted."""
     given = b"AskGaps\n" * (MOST + 7)
     lines = [
         line(f"line {row}: AskGaps: 0 fields behind its name, not 1: AskGaps,Series") for row in range(1, MOST + 1)

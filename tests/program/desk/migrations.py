@@ -26,7 +26,7 @@ from tools.words import Row
 
 
 class Case(NamedTuple):
-    """The statements that make the file, what the desk is asked once it is of version 2, with which status and what it
+    """The statements that make the file, what the desk is asked once it is of version 2, and the expected status and
     answers."""
 
     name: str
@@ -93,7 +93,7 @@ CREATE TABLE price_minimum (item TEXT) STRICT;
 
 
 def without_articles(room: Room) -> Iterator[Outcome]:
-    """Where the index cannot be made, since its table is not there, the file is refused and stays."""
+    """If the index cannot be made, since its table is missing, the file is refused and stays."""
     execute(room, STRANGER)
     kept = room.path(DATABASE).read_bytes()
     came = batch(room, b""), room.path(DATABASE).read_bytes() == kept
@@ -101,7 +101,7 @@ def without_articles(room: Room) -> Iterator[Outcome]:
 
 
 def keys(room: Room, table: str, file: str) -> list[list[Row]]:
-    """The columns of each primary or unique key of a table, with how they compare."""
+    """The columns of each primary or unique key of a table, and how they compare."""
     found: list[list[Row]] = []
     for _, name, _, origin, _ in rows(room, f"PRAGMA index_list({table})", file):
         if origin != "c":
@@ -111,7 +111,7 @@ def keys(room: Room, table: str, file: str) -> list[list[Row]]:
 
 
 def shapes(room: Room, file: str) -> dict[str, dict[str, list[Row] | list[list[Row]]]]:
-    """Of each table whether it is strict, its columns, its keys and its parents."""
+    """For each table whether it is strict, its columns, its keys and its parents."""
     return {
         table: {
             "strict": rows(room, f"SELECT strict FROM pragma_table_list('{table}')", file),

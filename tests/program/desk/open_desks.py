@@ -1,4 +1,4 @@
-"""Batches to a desk that is open: real sockets beside the port, and the command `batch` that sends one there."""
+"""Batches to an open desk: real sockets beside the port, and the command `batch` that sends one there."""
 
 import contextlib
 import os
@@ -53,7 +53,7 @@ def reached(room: Room) -> socket.socket:
     """A client of the socket."""
     peer = socket.socket(socket.AF_UNIX)
     peer.settimeout(SECONDS)
-    # The path of a socket is short, that of the room need not be.
+    # The path of a socket is short; that of the room need not be.
     folder = os.open(room.folder, os.O_RDONLY)
     try:
         peer.connect(f"/proc/self/fd/{folder}/{SOCKET}")
@@ -63,19 +63,19 @@ def reached(room: Room) -> socket.socket:
 
 
 def answered(room: Room, text: bytes) -> bytes:
-    """What a batch is answered that a client of the socket sends."""
+    """The answers to a batch that a client sends to the socket."""
     with reached(room) as peer:
         send(peer, [text])
         return receive(peer)
 
 
 def sent(room: Room, text: bytes | None, is_full: bool = False) -> Ran:
-    """How `batch` ends that sends its input to the socket."""
+    """How `batch` ends when it sends its input to the socket."""
     return room.run("--batches", SOCKET, "batch", given=text, is_full=is_full)
 
 
 class Batch(NamedTuple):
-    """A batch, how the command ends that sends it, and the line of the desk."""
+    """A batch, how the command that sends it ends, and the desk's line."""
 
     name: str
     text: bytes
@@ -122,7 +122,7 @@ def batches_to_an_open_desk(room: Room) -> Iterator[Outcome]:
 
 
 def in_turn(room: Room) -> Iterator[Outcome]:
-    """While clients wait at both, one of the port and one of the socket come next by turns."""
+    """While clients wait at both, port and socket are served in turn."""
     yield Outcome("in turn: the desk", batch(room, AGREEMENT + bare(1)), Ran(0, AGREED + applied(1)))
     with open_desk(room, 7) as desk, contextlib.ExitStack() as clients:
         first = clients.enter_context(connected(desk.port))
@@ -145,7 +145,7 @@ def in_turn(room: Room) -> Iterator[Outcome]:
 
 
 def a_client_that_stalls(room: Room) -> Iterator[Outcome]:
-    """It is waited for 10 seconds, nothing of its batch is asked, and the next is served."""
+    """The desk waits for it for 10 seconds, asks nothing of its batch, and serves the next one."""
     yield Outcome("a stall: the desk", batch(room, AGREEMENT), Ran(0, AGREED))
     with open_desk(room, 2) as desk, reached(room) as silent:
         silent.sendall(bare(1))
@@ -159,7 +159,7 @@ def a_client_that_stalls(room: Room) -> Iterator[Outcome]:
 
 
 def a_client_that_is_slow(room: Room) -> Iterator[Outcome]:
-    """What the desk does between reads and writes is not counted: a client that takes its answers late, but
+    """Time that the desk spends between reads and writes does not count: a client that takes its answers late, but
     waits for none, is served whole."""
     text = AGREEMENT + b"".join(bare(number) for number in range(1, 201))
     with open_desk(room, 1) as desk, reached(room) as peer:
@@ -173,8 +173,7 @@ def a_client_that_is_slow(room: Room) -> Iterator[Outcome]:
 
 
 def texts_that_are_none(room: Room) -> Iterator[Outcome]:
-    """The limits are those of a batch. A client of its own is answered by nothing; the command sees them
-    itself, and sends nothing."""
+    """The limits are those of a batch. A client gets no answer; the command checks them itself, and sends nothing."""
     largest = AGREEMENT + b"\n" * (LARGEST - len(AGREEMENT))
     words = AGREEMENT + b"AskGaps,\xff\n"
     with open_desk(room, 4) as desk:
@@ -195,7 +194,7 @@ def texts_that_are_none(room: Room) -> Iterator[Outcome]:
 
 
 def whose_it_is(room: Room) -> Iterator[Outcome]:
-    """The socket is of the program's user and group alone."""
+    """Only the program's user and group can use the socket."""
     with open_desk(room, None):
         found = os.lstat(room.path(SOCKET))
         came = stat.S_ISSOCK(found.st_mode), oct(stat.S_IMODE(found.st_mode)), found.st_uid, found.st_gid
@@ -208,7 +207,7 @@ def start_beside(room: Room) -> Ran:
 
 
 def sockets_that_are_there(room: Room) -> Iterator[Outcome]:
-    """One that is left over is replaced; one that answers, and any other file, ends the program."""
+    """A left-over socket is replaced; one that answers, and any other file, ends the program."""
     with open_desk(room, None) as desk:
         yield Outcome("a socket that answers", start_beside(room), FAULT)
         yield Outcome("a socket that answers: its desk", sent(room, AGREEMENT), Ran(0, AGREED))
@@ -225,13 +224,13 @@ def sockets_that_are_there(room: Room) -> Iterator[Outcome]:
     yield Outcome("a file that is no socket: what it holds", room.path(SOCKET).read_bytes(), b"a shop's own file")
 
 
-# So many messages are sent, and the desk is killed once so many of their answers have come.
+# So many messages are sent, and the desk is killed after so many answers.
 MANY = 3000
 COME = 300
 
 
 def killed_amid_a_batch(room: Room) -> Iterator[Outcome]:
-    """Whatever a client had been answered is in the file, and of the rest at most what comes next in order."""
+    """Whatever a client was answered is in the file, and of the rest at most what comes next."""
     yield Outcome("a kill: the desk", batch(room, AGREEMENT), Ran(0, AGREED))
     with open_desk(room, None) as desk:
         words: list[Word] = [room.program, "--batches", SOCKET, "batch"]
@@ -258,7 +257,7 @@ def killed_amid_a_batch(room: Room) -> Iterator[Outcome]:
 
 
 def outputs_that_are_full(room: Room) -> Iterator[Outcome]:
-    """The requests have taken effect, as those of `batch` have."""
+    """The requests have taken effect, like those of `batch`."""
     with open_desk(room, 2) as desk:
         came = sent(room, AGREEMENT, is_full=True)
         yield Outcome("a full output", came, Ran(3, b"", b"onixdesk: output\n"))

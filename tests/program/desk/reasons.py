@@ -1,5 +1,5 @@
-"""The second line of a fault, which says why, by the name of what it is about: the storage, a file, an input, an output, a
-port, a socket, a rules file; and the line on a refusal, by its kind. How they are worded is not tested here."""
+"""The second line of a fault, which says why, by its subject: the storage, a file, an input, an output, a port, a
+socket, a rules file; and the line on a refusal, by its kind. The wording is not tested here."""
 
 import os
 import socket
@@ -15,7 +15,7 @@ from tests.running import Outcome
 
 
 class Told(NamedTuple):
-    """How a run ended, its first line on standard error, and whether each line behind it is about what is named."""
+    """How a run ended, its first line on standard error, and whether each later line is about this subject."""
 
     status: int
     line: str
@@ -32,7 +32,7 @@ def fault(line: str, status: int = 3) -> Told:
 
 
 def storage(room: Room) -> Iterator[Outcome]:
-    """By what the system says of the files of a desk, and how they begin."""
+    """What the system says of a desk's files, and how the lines begin."""
     batch(room, AGREEMENT)
     whole = room.path(DATABASE).read_bytes()
     room.write("text.db", b"no database" * 1000)
@@ -77,7 +77,7 @@ def files(room: Room) -> Iterator[Outcome]:
     yield Outcome("why: a rules file", came, fault("rules: bad rule 1", status=2))
 
 
-# What is wrong in files, by the words that name one of them `pipe`, and how the last line on it begins.
+# What is wrong in files, with the words in which `pipe` stands for the file, and how the last line begins.
 PIPED = {
     ("--rules", "pipe", "batch"): (b'[[rule]]\nserie = "*"\n', 2, "pipe: line 2: rule 1: "),
     ("rules", "pipe"): (b"rule = 1\n", 2, "pipe: line 1: rule is not an array"),
@@ -89,7 +89,7 @@ PIPED = {
 
 
 def pipes(room: Room) -> Iterator[Outcome]:
-    """A file that is a pipe is opened once, also where it is wrong."""
+    """A file that is a pipe is opened once, even if it is wrong."""
     path = room.path("pipe")
     os.mkfifo(path)
     for words, (text, status, line) in PIPED.items():
@@ -101,12 +101,12 @@ def pipes(room: Room) -> Iterator[Outcome]:
         yield Outcome(f"why: a pipe: {' '.join(words)}", found, (status, True))
 
 
-# Behind an `é` in UTF-8 one in ISO-8859-1, and half of one at an end.
+# After an `é` in UTF-8 one in ISO-8859-1, and half of one at an end.
 WRONG_TEXTS = {b"AskGaps,\xc3\xa9\r\n\nAskGaps,\xe9\n": (3, "E9"), b"AskGaps,north\nAskGaps,\xc3": (2, "C3")}
 
 
 def texts(room: Room) -> Iterator[Outcome]:
-    """Of a text that is not UTF-8 the line is said, by the name of its file, also where another text was right before."""
+    """The line of a text that is not UTF-8, with the name of its file, even if another text was right before."""
     room.write("right.csv", b"Message,1,06,S,,,1,1,20250301,,\nEndMessage,1\n")
     for text, (line, byte) in WRONG_TEXTS.items():
         room.write("wrong.csv", text)
@@ -121,7 +121,7 @@ def texts(room: Room) -> Iterator[Outcome]:
 
 
 def outputs(room: Room) -> Iterator[Outcome]:
-    """Of an output that takes no more, of each command that writes to it, once."""
+    """An output that takes no more, once for each command that writes to it."""
     batch(room, AGREEMENT)
     full = os.open("/dev/full", os.O_WRONLY)
     for words in ["--db", DATABASE, "agreements"], ["gaps", "north"], ["--help"], ["--db", DATABASE, "gaps", "north"]:
@@ -131,7 +131,7 @@ def outputs(room: Room) -> Iterator[Outcome]:
 
 
 def ports_and_sockets(room: Room) -> Iterator[Outcome]:
-    """A port that another program has, and files in place of a socket."""
+    """A port that another program has, and files in the place of a socket."""
     with socket.socket() as other:
         other.bind((HOST, 0))
         other.listen()
@@ -145,8 +145,8 @@ def ports_and_sockets(room: Room) -> Iterator[Outcome]:
 
 
 def of_a_socket(room: Room) -> Iterator[Outcome]:
-    """Of a batch at a socket both who sends it and the desk say what is malformed: of 107 requests the first 100, and
-    how many more there are."""
+    """Both the sender of a batch at a socket and the desk say what is malformed: of 107 requests the first 100, and how
+    many more there are."""
     why = "AskGaps: 0 fields behind its name, not 1: AskGaps,Series"
     for count, more in (1, b""), (107, b"onixdesk: 7 more are malformed\n"):
         lines = "".join(f"onixdesk: line {row}: {why}\n" for row in range(1, min(count, 100) + 1)).encode() + more
@@ -161,13 +161,13 @@ UNNUMBERED = b"Message,1,06,4012345000009,06,5012345678900,,,,,\nEndMessage,1\n"
 
 
 def refusals(room: Room) -> Iterator[Outcome]:
-    """Behind those of a desk in memory one line says that there was no --db."""
+    """After the lines of a desk in memory one line says that there was no --db."""
     came = room.told("batch", given=AGREEMENT + AGREEMENT.replace(b"Agree,north,", b"Agree,west,"))
     [line] = came.errors.decode().splitlines()
     yield Outcome("why: no --db", (came.status, line.startswith("onixdesk: without --db ")), (1, True))
 
 
-# Questions over HTTP whose query is bad, by the key that is wrong; and one that is not bad.
+# Questions over HTTP with a bad query, by the wrong key; and a good one.
 PRICE = "/articles/9781234567897/price?"
 TERMS = "day=20250301&country=GB&currency=GBP&type=02"
 QUESTIONS = {
@@ -181,7 +181,7 @@ QUESTIONS = {
 
 
 def bad_queries(room: Room) -> Iterator[Outcome]:
-    """Of each a line of the desk says which key is wrong, and of no other question."""
+    """A line of the desk names the wrong key of each, and of no other question."""
     with serving(room, [], len(QUESTIONS) + 1) as desk:
         for target in QUESTIONS:
             reply = desk.reply([f"GET {target} HTTP/1.1\r\n\r\n".encode()])
@@ -192,7 +192,7 @@ def bad_queries(room: Room) -> Iterator[Outcome]:
     yield Outcome("why: the lines of the desk", (len(came), found), (len(QUESTIONS), [True] * len(QUESTIONS)))
 
 
-# Posted messages, each with how the line of the desk on it begins; none where it says nothing.
+# Posted messages, each with how the desk's line on it begins; None if it says nothing.
 POSTED = {
     b"Message,1,06,4012345000009,06,5012345678900,1,1,20250301,,\nEndMessage,5\n": "row 2: EndMessage: ",
     b"<ONIXMessage>": "row 1: <ONIXMessage>: ",
@@ -201,7 +201,7 @@ POSTED = {
 
 
 def posted_messages(room: Room) -> Iterator[Outcome]:
-    """Of a message that is posted over HTTP and is none a line of the desk says where it is wrong."""
+    """For a malformed message over HTTP a line of the desk says where it is wrong."""
     with serving(room, [], len(POSTED)) as desk:
         for text, line in POSTED.items():
             reply = desk.reply([posted(text)])

@@ -1,5 +1,5 @@
-"""Rules files that are read or refused. With each the program answers no requests, and writes the
-line of a fault or nothing; the command `rules` says which line is wrong, and why."""
+"""Rules files that are read or refused. With each the program answers no requests, and writes the line of a fault or
+nothing; the command `rules` says which line is wrong, and why."""
 
 from collections.abc import Iterator
 
@@ -30,7 +30,7 @@ def texts(room: Room) -> Iterator[Outcome]:
         yield Outcome(f"a rules file: {name}", came, Ran(2 if fault else 0, b"", said_by_desk(fault)))
 
 
-# Name, text that is no TOML, and the line that is wrong.
+# Name, text that is not TOML, and the line that is wrong.
 UNREAD = [
     ("no value", b"rule = ", 1),
     ("a text that is not closed", b'[[rule]]\n\nseries = "north\n', 3),
@@ -40,7 +40,7 @@ UNREAD = [
 
 
 def tried(room: Room) -> Iterator[Outcome]:
-    """By the command `rules`, which reads a file as a desk does that is started with it."""
+    """By the command `rules`, which reads a file as a starting desk does."""
     for name, text, line in files("rules"):
         room.write("rules.toml", text)
         is_read = line.startswith("rules ")
@@ -51,7 +51,7 @@ def tried(room: Room) -> Iterator[Outcome]:
 
 
 def is_no_toml(room: Room) -> Iterator[Outcome]:
-    """The cause is the parser's own words."""
+    """The cause is in the parser's own words."""
     for name, text, line in UNREAD:
         room.write("rules.toml", text)
         came = room.told("rules", "rules.toml", given=UNREADABLE)

@@ -1,5 +1,5 @@
-"""Files that are no desk and no database: each command refuses them, and leaves them byte for byte as they
-were. So it does with a desk of which a page is damaged, which is to be restored and not begun anew."""
+"""Files that are no desk and no database: each command refuses them, and leaves them byte for byte as they were. It
+also refuses a desk with a damaged page, which has to be restored and not begun anew."""
 
 import random
 from collections.abc import Callable, Iterator
@@ -11,7 +11,7 @@ from tests.program.messages import AGREED, AGREEMENT
 from tests.program.room import Group, Ran, Room
 from tests.running import Outcome
 
-# How many bytes a page of a desk's file has.
+# The size of a page in a desk's file.
 PAGE = 4096
 
 MESSAGE = "message.csv"
@@ -28,7 +28,7 @@ def letter(room: Room) -> bytes:
 
 
 def zero_byte(room: Room) -> bytes:
-    """The making of a database begins with this byte, behind its log."""
+    """The making of a database begins with this byte, after its log."""
     return b"\0"
 
 
@@ -39,7 +39,7 @@ def desk_without_page(number: int, room: Room) -> bytes:
     return whole[: (number - 1) * PAGE] + bytes(PAGE) + whole[number * PAGE :]
 
 
-# What each file holds. The first page of a database has its header; the second is one of a table.
+# The contents of each file. The first page of a database has its header; the second belongs to a table.
 FILES = {
     "random bytes": random_bytes,
     "a letter": letter,
@@ -61,7 +61,7 @@ def is_refused(name: str, contents: Callable[[Room], bytes], room: Room) -> Iter
 
 
 def is_begun(room: Room) -> Iterator[Outcome]:
-    """Beside the log of an opening that was stopped one byte is a desk that is not made yet."""
+    """Beside the log of a stopped opening, one byte is a desk that is not made yet."""
     room.run("--db", "other.db", "batch")
     room.write(DATABASE, b"\0")
     room.write(f"{DATABASE}-wal", room.path("other.db-wal").read_bytes())
@@ -70,7 +70,7 @@ def is_begun(room: Room) -> Iterator[Outcome]:
 
 
 def a_log_of_somebody(room: Room) -> Iterator[Outcome]:
-    """A new desk overwrites what has the name of its log."""
+    """A new desk overwrites a file with the name of its log."""
     room.write(f"{DATABASE}-wal", b"notes of somebody\n" * 20)
     came = room.run("--db", DATABASE, "batch", given=AGREEMENT)
     is_kept = room.path(f"{DATABASE}-wal").read_bytes().startswith(b"notes")

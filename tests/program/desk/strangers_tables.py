@@ -1,5 +1,5 @@
-"""A desk in the database of another program: one is created there where that is asked for, and then answers as any
-other; by `--existing`, and by the commands that only list, none is, and the file stays byte for byte."""
+"""A desk in the database of another program: one is made there if that is asked for, and then answers as any other;
+with `--existing`, and by the commands that only list, none is, and the file stays byte for byte."""
 
 from collections.abc import Iterator
 from functools import partial
@@ -28,7 +28,7 @@ def strangers_rows(room: Room) -> list[tuple[object, ...]]:
     return rows(room, "SELECT d.id, d.title, p.title FROM dashboard d JOIN panel p ON p.dashboard = d.id ORDER BY d.id")
 
 
-# The commands that only list, over a database without `--existing` too.
+# The commands that only list, also over a database without `--existing`.
 LISTING = ["agreements", "export", "gaps"]
 
 # Those that may change a desk, with `--existing`.
@@ -52,7 +52,7 @@ def is_left(words: list[str], command: str, room: Room) -> Iterator[Outcome]:
 
 
 def is_not_made(command: str, room: Room) -> Iterator[Outcome]:
-    """What lists a desk makes none of a missing file, nor of an empty one."""
+    """Commands that list a desk make none from a missing or an empty file."""
     for words in ["--db", DATABASE], EXISTING:
         came = room.run(*words, *command.split(), given=UNREADABLE)
         yield Outcome(f"a missing file: {' '.join([*words, command])}", came, UNUSABLE)
@@ -61,7 +61,7 @@ def is_not_made(command: str, room: Room) -> Iterator[Outcome]:
     came = room.run("--db", DATABASE, *command.split(), given=UNREADABLE)
     yield Outcome(f"an empty file: {command}", came, UNUSABLE)
     yield Outcome(f"an empty file: the file after {command}", room.path(DATABASE).read_bytes(), b"")
-    # A sound database without a table has no desk either.
+    # Nor does a sound database without a table have a desk.
     execute(room, "CREATE TABLE book (title TEXT); DROP TABLE book;")
     found = room.path(DATABASE).read_bytes()
     came = room.run("--db", DATABASE, *command.split(), given=UNREADABLE)
@@ -72,7 +72,7 @@ def is_not_made(command: str, room: Room) -> Iterator[Outcome]:
 
 
 def beside_a_desk(room: Room) -> Iterator[Outcome]:
-    """A desk that is made there answers as any other, in later runs too, and their rows stay."""
+    """A desk that is made there answers as any other, in later runs too, and the other program's rows stay."""
     execute(room, STRANGERS)
     answers = AGREED + applied(1, 1) + held(3, 2)
     came = batch(room, AGREEMENT + priced(1, "R1", "12.99") + bare(3))

@@ -20,7 +20,7 @@ def preceded(later: int, earlier: int) -> bytes:
 
 
 def doubt(term: dict[str, Any]) -> str:
-    """Why the types of a term do not fit its tax, and nothing where they do."""
+    """Why the types of a term do not fit its tax; empty if they do."""
     have_tax = {kind in WITH_TAX for kind in term["types"]}
     net_has_tax = term["net"] in WITH_TAX
     if "tax" not in term:
@@ -58,13 +58,13 @@ def tables(room: Room) -> Iterator[Outcome]:
         came = room.run("terms", "north.toml", given=UNREADABLE)
         yield Outcome(f"terms: {case.name}", came, wanted(case))
         came = room.told("convert", "--terms", "north.toml", "absent.xml", given=UNREADABLE)
-        # Only behind a table that is read is the FILE opened.
+        # The FILE is opened only after a table that is read.
         is_read = wanted(case).status == 0
         found = Ran(came.status) if is_read else came
         yield Outcome(f"convert by terms: {case.name}", found, Ran(3) if is_read else wanted(case))
 
 
-# Name, text that is no TOML, and the line that is wrong.
+# Name, text that is not TOML, and the line that is wrong.
 UNREAD = [
     ("no value", b"term = ", 1),
     ("a text that is not closed", b'[[term]]\n\nnet = "05\n', 3),
@@ -76,7 +76,7 @@ UNREAD = [
 
 
 def tables_that_are_no_toml(room: Room) -> Iterator[Outcome]:
-    """The cause is the parser's own words."""
+    """The cause is in the parser's own words."""
     for name, text, line in UNREAD:
         room.write("north.toml", text)
         came = room.run("terms", "north.toml", given=UNREADABLE)

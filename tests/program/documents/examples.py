@@ -1,4 +1,4 @@
-"""The examples, which are to be answered as the documents say."""
+"""The examples in documents: they are answered as shown."""
 
 import os
 import re
@@ -19,7 +19,7 @@ TOUR = "docs/TOUR.md"
 
 
 def blocks(document: str) -> list[list[str]]:
-    """The blocks of lines that a document sets off by a margin."""
+    """The blocks of lines that a document indents."""
     text = (ROOT / document).read_text(encoding="utf-8")
     paragraphs = [paragraph.splitlines() for paragraph in text.split("\n\n")]
     return [
@@ -48,7 +48,7 @@ def example(name: str) -> bytes:
     return (ROOT / name).read_bytes()
 
 
-# What begins a command among lines that also have what it writes.
+# How commands begin, among lines that also show their output.
 COMMAND = re.compile(r"(?:bin/|curl |sqlite3 )")
 
 # A command that ends in `<<'END'` has further lines.
@@ -70,7 +70,7 @@ def commands(lines: list[str]) -> list[tuple[str, list[str]]]:
 
 
 def like_the_repository(room: Room) -> None:
-    """The folder of the room with what the commands name, of which bin/onixdesk is the program that is tested."""
+    """Gives the room what the commands name; bin/onixdesk is the tested program."""
     shutil.copytree(ROOT / "bin", room.path("bin"), ignore=shutil.ignore_patterns("onixdesk"))
     room.path("bin/onixdesk").symlink_to(room.program)
     for name in ("examples", "page", "programs"):
@@ -78,10 +78,10 @@ def like_the_repository(room: Room) -> None:
 
 
 def tried(room: Room, page: str, lines: list[str], port: int = 8080) -> Iterator[Outcome]:
-    """Runs each command of a block as the page has it, at a desk of that port, and compares what it writes."""
+    """Runs each command of a block as it stands, at a desk on that port, and compares its output."""
     for command, shown in commands(lines):
         came = room.call(["sh", "-c", command.replace(":8080", f":{port}")])
-        # A reply has no line end, and curl tells how far it is.
+        # A reply has no line end, and curl shows that.
         ended = came.output + (b"\n" if command.startswith("curl ") else b"")
         yield Outcome(f"{page}: {command}", (came.status, ended), (0, written(shown)))
 
@@ -96,8 +96,8 @@ def first_batches(room: Room) -> Iterator[Outcome]:
 
 
 def own_file(room: Room) -> Iterator[Outcome]:
-    """What README.md has for a wholesaler's file, pasted once and again, with a feed of the examples, which becomes one
-    message or two."""
+    """The block in README.md for a wholesaler's file, pasted once and again, with a feed of the examples that becomes
+    one message or two."""
     like_the_repository(room)
     room.path(str(BUILT.parent.relative_to(ROOT))).mkdir(parents=True)
     room.path(str(BUILT.relative_to(ROOT))).symlink_to(room.program)
@@ -116,7 +116,7 @@ def own_file(room: Room) -> Iterator[Outcome]:
 
 
 def week(room: Room) -> Iterator[Outcome]:
-    """Each block behind the command is part of the answers."""
+    """Each block after the command is part of the answers."""
     answers = [line for lines in blocks("examples/shop/README.md")[1:] for line in lines]
     rules = ROOT / "examples/shop/rules.toml"
     came = room.run("--rules", rules, "batch", given=example("examples/shop/week.csv"))
@@ -135,7 +135,7 @@ def week_in_xml(room: Room) -> Iterator[Outcome]:
 
 
 def over_http(room: Room, page: str) -> Iterator[Outcome]:
-    """The desk is started as the page has it, at a port of its own."""
+    """Starts the desk as the page does, on a port of its own."""
     (command,) = block(page, "bin/onixdesk --db shop.db serve")
     port = free_port()
     words = ["sh", "-c", f"exec {command.replace('8080', str(port))}"]
@@ -185,7 +185,7 @@ HTTP = "docs/HTTP.md"
 
 @needs("curl")
 def page_of_http(room: Room) -> Iterator[Outcome]:
-    """Each command that the page of HTTP shows with its reply, to desks in the states that it tells of."""
+    """Each command on the page of HTTP with its reply, to desks in the states that it describes."""
     post, *deliveries = block(HTTP, "curl -H 'Expect:' --data-binary @message.csv")
     questions = [lines for lines in blocks(HTTP) if lines[0].startswith(("curl 'http", "curl http"))]
     of_articles = [lines for lines in questions if "/articles/" in lines[0]]
@@ -209,7 +209,7 @@ def page_of_http(room: Room) -> Iterator[Outcome]:
 
 
 def served_as_told(room: Room) -> Iterator[Outcome]:
-    """The two desks that the page of HTTP starts, at a port of their own, and a batch at the socket of the second."""
+    """The two desks that the page of HTTP starts, on ports of their own, and a batch at the socket of the second."""
     like_the_repository(room)
     room.run("--db", "shop.db", "batch", given=AGREEMENT)
     room.write("agreements.csv", AGREEMENT)
@@ -227,7 +227,7 @@ def served_as_told(room: Room) -> Iterator[Outcome]:
 
 
 def terms_as_told(room: Room) -> Iterator[Outcome]:
-    """The table of docs/ONIX.md, and what is said where a term comes behind one that is as wide."""
+    """The table in docs/ONIX.md, and what is said if a term follows one that is as wide."""
     table = written(block("docs/ONIX.md", "[[term]]"))
     command, *lines = block("docs/ONIX.md", "onixdesk terms ")
     words = command.split()[1:]
@@ -239,12 +239,12 @@ def terms_as_told(room: Room) -> Iterator[Outcome]:
 
 
 def script(room: Room, name: str, *words: str) -> Ran:
-    """How a script of the examples ends that runs the program of the room."""
+    """How a script of the examples ends that runs the room's program."""
     return room.call([ROOT / name, *words], environment={**os.environ, "ONIXDESK": str(room.program)})
 
 
 @needs("curl")
 def script_of_http(room: Room) -> Iterator[Outcome]:
-    """The script compares each reply with the one that is written in it; what is wrong with its bad query is told."""
+    """The script compares each reply with the one written in it; a line reports its bad query."""
     wanted = Ran(0, b"", b"onixdesk: bad-query: day is given 2 times\n")
     yield Outcome("http.sh: its replies", script(room, "examples/http.sh", str(free_port())), wanted)

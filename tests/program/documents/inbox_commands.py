@@ -58,7 +58,7 @@ def a_number_that_never_comes(room: Room) -> Iterator[Outcome]:
 
 
 def numbers_of_more_parts(room: Room) -> Iterator[Outcome]:
-    """Those that a change of parts leaves out, as docs/ONIX.md waives them, of which the first hundred are tried."""
+    """The numbers that a change of parts leaves out, as docs/ONIX.md waives them; the first hundred are tried."""
     with machine(room, AGREEMENT.format("4012345000009", 15301)) as desk:
         (command,) = block_with("docs/ONIX.md", "onixdesk-inbox waive north")
         yield Outcome(f"docs/ONIX.md: {command}", desk.run([command.replace("-18000", "-15400")]).status, 0)
@@ -68,7 +68,7 @@ def numbers_of_more_parts(room: Room) -> Iterator[Outcome]:
 
 
 def a_file_that_is_quarantined(room: Room) -> Iterator[Outcome]:
-    """Its line begins with the commands, of which one is pasted."""
+    """Its line begins with the commands; one of them is pasted."""
     with machine(room, AGREED) as desk:
         data = feed(1000, a="8.00")
         desk.put({"sale.xml": data})
@@ -93,7 +93,7 @@ def taken_again(room: Room) -> Iterator[Outcome]:
 
 
 def set_up_and_removed(room: Room) -> Iterator[Outcome]:
-    """Users and groups are the machine's: what makes them, and who owns a folder, is only written down."""
+    """Users, groups and owners are the machine's: stand-ins only write down what is called."""
     with machine(room, AGREED) as desk:
         example = (ROOT / "programs/onixdesk-inbox/example.conf").read_text(encoding="utf-8")
         example = desk.placed(example)
@@ -153,7 +153,7 @@ def fetched_by_sftp(room: Room) -> Iterator[Outcome]:
 
 @needs("curl")
 def an_address_with_a_date(room: Room) -> Iterator[Outcome]:
-    """The script, from a folder in place of the server. What came once is not fetched again."""
+    """The script, from a folder instead of the server. What came once is not fetched again."""
     desk = Machine(room)
     for name in ("server", "var/lib/onixdesk-fetch/north"):
         room.path(name).mkdir(parents=True)

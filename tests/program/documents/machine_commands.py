@@ -35,7 +35,7 @@ def a_copy_is_restored(room: Room) -> Iterator[Outcome]:
 
 
 def moved_to_another_machine(room: Room) -> Iterator[Outcome]:
-    """There is no desk there, nor a ledger, and the copy has both."""
+    """There is no desk there, nor a ledger; the copy has both."""
     with machine(room, AGREED) as desk:
         desk.take({"1.xml": feed(1, a="8.00")})
         desk.run(["systemctl stop onixdesk.service"])
@@ -83,7 +83,7 @@ def mails_are_sent(room: Room) -> Iterator[Outcome]:
 
 
 def an_unusable_storage(room: Room) -> Iterator[Outcome]:
-    """The desk itself has its file open; then there are a database of another program, a text, and nothing."""
+    """First the desk itself has its file open; then there are another program's database, a text, and nothing."""
     lines = block_with(PAGE, "namei -l $file")
     with machine(room, AGREED) as desk:
         pid = room.path("pid").read_text().strip()

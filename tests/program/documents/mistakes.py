@@ -1,6 +1,6 @@
-"""What docs/MISTAKES.md has for mistakes that were made: each of its blocks is run as it is, at a desk and an inbox
-where they were made, and prices are compared before and behind it. Each line that it calls wrong is tried too, and
-the right line beside it."""
+"""The blocks of docs/MISTAKES.md: each is run as it stands, at a desk and an inbox where the mistake was made, and
+prices are compared before and after it. Each line that the page calls wrong is tried too, and the right line beside it.
+"""
 
 import hashlib
 import re
@@ -28,7 +28,7 @@ def mark(data: bytes) -> str:
 def undone(
     desk: Machine, text: str, before: dict[str, str], behind: dict[str, str], marks: dict[str, str] | None = None
 ) -> Iterator[Outcome]:
-    """Runs the block of the page with that text, in which files have their own marks, and compares prices."""
+    """Runs the block of the page with that text, with the marks of the test's files, and compares prices."""
     yield Outcome(f"{text}: prices before", desk.prices(), {name: [amount] for name, amount in before.items()})
     lines = "\n".join(block_with(PAGE, text))
     for shown, own in (marks or {}).items():
@@ -47,7 +47,7 @@ def copies_in(desk: Machine) -> list[str]:
 def undone_again(
     desk: Machine, text: str, before: dict[str, str], behind: dict[str, str], lacking: bytes
 ) -> Iterator[Outcome]:
-    """So it is behind a restore of a copy from before it, which may say what the desk lacks until then."""
+    """The same after a restore of an earlier copy, which may say until then what the desk lacks."""
     desk.run(["systemctl start onixdesk-copy.service"])
     (copy,) = copies_in(desk)
     yield from undone(desk, text, before, behind)
@@ -103,7 +103,7 @@ def numbers_that_begin_again(room: Room) -> Iterator[Outcome]:
 
 
 def numbers_that_begin_again_below_a_waiver(room: Room) -> Iterator[Outcome]:
-    """The desk refuses the new file by the waiver, and its line has no setting."""
+    """The desk refuses the new file because of the waiver, and its line has no setting."""
     with machine(room, AGREED, WORDS="") as desk:
         desk.run(["onixdesk-inbox waive north 1"])
         desk.take({"2.xml": feed(2, a="11.00")})
@@ -116,7 +116,7 @@ def numbers_that_begin_again_below_a_waiver(room: Room) -> Iterator[Outcome]:
 
 
 def a_wrong_number(room: Room) -> Iterator[Outcome]:
-    """It is in quarantine first, since its number is far ahead, and somebody lets it in."""
+    """It is quarantined first, since its number is far ahead, and somebody lets it in."""
     with machine(room, AGREED) as desk:
         dated = feed(20250401, a="10.00")
         desk.take({"1.xml": feed(1, a="9.00", b="20.00"), "feed.xml": dated})
@@ -128,7 +128,7 @@ def a_wrong_number(room: Room) -> Iterator[Outcome]:
 
 
 def a_waiver_too_early(room: Room) -> Iterator[Outcome]:
-    """Behind the block the inbox posts the file of number 5 by itself."""
+    """After the block the inbox posts the file of number 5 by itself."""
     with machine(room, AGREEMENT.format("4012345000009", 4)) as desk:
         desk.take({"4.xml": feed(4, a="14.00", b="5.00")})
         desk.run(["onixdesk-inbox waive north 5"])
@@ -140,7 +140,7 @@ def a_waiver_too_early(room: Room) -> Iterator[Outcome]:
 
 
 def with_a_wrong_message(desk: Machine) -> tuple[dict[str, str], bytes]:
-    """A copy of an earlier night, and a wrong message that was applied behind it: the prices, and its file."""
+    """A copy of an earlier night, and a wrong message applied after it: the prices, and its file."""
     wrong = feed(2, a="1.00", b="1.00")
     desk.take({"1.xml": feed(1, a="10.00")})
     desk.run(["systemctl start onixdesk-copy.service"])
@@ -180,7 +180,7 @@ def a_wrong_file_of_parts(room: Room) -> Iterator[Outcome]:
 
 
 def a_copy_from_before_it(room: Room) -> Iterator[Outcome]:
-    """The line that is printed refuses the wrong file, and the block waives its number."""
+    """The printed line refuses the wrong file, and the block waives its number."""
     with machine(room, AGREED) as desk:
         before, _ = with_a_wrong_message(desk)
         restoring = "desk-restore /var/lib/onixdesk-copies/*"
@@ -200,7 +200,7 @@ TERMS = '[[term]]\ntypes = ["02"]\nnet = "05"\npercent = "4.25"\ntax = "0"\n'
 
 
 def a_wrong_percent(room: Room) -> Iterator[Outcome]:
-    """12.99, 10.00 and 1.00 less 4.25 %, and less 42.5 %, a half being rounded up."""
+    """12.99, 10.00 and 1.00 less 4.25 %, and less 42.5 %, halves rounded up."""
     with machine(room, AGREED, NUMBER="next", TERMS=room.path("etc/onixdesk/terms/north.toml")) as desk:
         room.write("etc/onixdesk/terms/north.toml", TERMS.encode())
         full, update = feed(None, a="12.99", b="20.00"), feed(None, b="10.00", c="1.00")

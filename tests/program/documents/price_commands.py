@@ -16,7 +16,7 @@ NIGHT = "var/lib/onixdesk-prices/prices.csv"
 
 
 def message(number: int, amount: str) -> str:
-    """What the shop pays for the article, and what readers do."""
+    """What the shop pays for the article, and what readers pay."""
     lines = [
         f"Message,1,06,4012345000009,06,5012345678900,{number},1,20250401,02,GBP",
         f"Product,R1,03,15,{ISBN}",
@@ -29,7 +29,7 @@ def message(number: int, amount: str) -> str:
 
 
 def line_of(desk: Machine, name: str) -> dict[str, str]:
-    """What the file says of the one article."""
+    """The line of the one article."""
     with open(desk.room.path(name), encoding="utf-8", newline="") as file:
         (row,) = csv.DictReader(file)
     return row

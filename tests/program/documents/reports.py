@@ -1,4 +1,4 @@
-"""docs/REPORTS.md: each of its questions in SQL is asked as it stands there, and its output compared."""
+"""docs/REPORTS.md: each of its questions in SQL is asked as it stands, and its output compared."""
 
 import contextlib
 import json
@@ -13,14 +13,14 @@ from tools.root import ROOT
 PAGE = "docs/REPORTS.md"
 TITLES = "/var/lib/onixdesk-state"
 
-# As an inbox keeps them: series, number, moment, title, subtitle, contributors and publisher.
+# The form in which an inbox keeps titles: series, number, moment, title, subtitle, contributors and publisher.
 KEPT = {
     "9781234567897": [["north", 2, 1741100000, "A Week of Books", "", "Ann Author", "House"], ["west", 40, 1740000000]]
 }
 
 
 def desks(room: Room) -> Ran:
-    """What the page begins with, and the copies of two days."""
+    """The page's first commands, and the copies of two days."""
     like_the_repository(room)
     room.path("titles/97812").mkdir(parents=True)
     room.write("titles/97812/97812345.json", json.dumps(KEPT).encode())

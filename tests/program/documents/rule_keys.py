@@ -1,4 +1,4 @@
-"""The keys of a rule, as the table of docs/FORMATS.md has them, and those of a term, as the example of docs/ONIX.md does."""
+"""The keys of a rule, as in the table of docs/FORMATS.md, and those of a term, as in the example of docs/ONIX.md."""
 
 import re
 from collections.abc import Iterator
@@ -21,7 +21,7 @@ def text_of(name: str) -> str:
 
 
 def keys(room: Room) -> Iterator[Outcome]:
-    """The page has the keys of the table; the desk takes a rule with all, none without one that has to be there, and no
+    """The page has the keys of the table; the desk takes a rule with all of them, none without a required one, and no
     other key."""
     table = dict(ROW.findall(text_of("docs/FORMATS.md").partition("| Key of a rule |")[2].partition("\n\n")[0]))
     yield Outcome("keys of a rule: the page", set(IN_PAGE.findall(text_of("page/desk/rules.js"))), table.keys())
@@ -37,7 +37,7 @@ def keys(room: Room) -> Iterator[Outcome]:
 
 
 def example_term() -> tuple[dict[str, str], set[str]]:
-    """The keys of the example with what stands behind them, and those that are needed."""
+    """The keys of the example with the text after them, and those that are needed."""
     found = TERM_LINE.findall(text_of("docs/ONIX.md").partition("[[term]]")[2].partition("\n\n")[0])
     return {key: value for key, value, _ in found}, {key for key, _, optional in found if not optional}
 
@@ -45,7 +45,7 @@ def example_term() -> tuple[dict[str, str], set[str]]:
 def keys_of_a_term(room: Room) -> Iterator[Outcome]:
     term, needed = example_term()
     for left_out in ("", *term):
-        # A scheme stands beside codes alone.
+        # A scheme is allowed only beside codes.
         without = {left_out, "scheme"} if left_out == "codes" else {left_out}
         text = "".join(f"{key} = {value}\n" for key, value in term.items() if key not in without)
         room.write("terms.toml", f"[[term]]\n{text}".encode())

@@ -1,5 +1,5 @@
-"""The number of parts is a part of the agreement on a series: what another one does, and how docs/ONIX.md
-says that it is changed."""
+"""The number of parts belongs to the agreement on a series: what another number does, and how docs/ONIX.md changes it.
+"""
 
 from collections.abc import Iterator
 from functools import partial
@@ -17,14 +17,14 @@ AGREEMENT = "Agree,north,06,S,,,1\n"
 
 
 class Change(NamedTuple):
-    """From so many parts to others, behind a message."""
+    """From so many parts to others, after a message."""
 
     before: int
     after: int
     message: int
 
     def offset(self) -> int:
-        """The least that takes the next message behind the numbers that are given."""
+        """The least offset that puts the next message after the given numbers."""
         offset = 0
         while (self.message + offset) * self.after < self.message * self.before:
             offset += 1
@@ -42,7 +42,7 @@ def message(number: int, room: Room, *words: str) -> bytes:
 
 
 def applied(first: int, count: int) -> str:
-    """The answers to the parts of a message, whose first has its product."""
+    """The answers to the parts of a message; the first part has its product."""
     effects = ["replaced=1", *["replaced=0"] * (count - 1)]
     rest = "updated=0,deleted=0,unknown=0,ignored=0"
     return "".join(f"applied,north,{first + part},{effect},{rest}\n" for part, effect in enumerate(effects))

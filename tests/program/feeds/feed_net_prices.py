@@ -13,7 +13,7 @@ from tests.program.feeds.feed_prices import Priced, amount_of, days_of
 from tests.program.feeds.feed_terms import is_code, is_currency, is_quantity
 from tests.program.feeds.feed_trees import Discount, Price, Term
 
-# In place of a percent: what the feed says.
+# Instead of a percent: what the feed says.
 OF_FEED = "feed"
 
 ORDINARY_DISCOUNTS = ("", "01")
@@ -21,7 +21,7 @@ ORDINARY_DISCOUNTS = ("", "01")
 # The TaxRateCode of no tax.
 ZERO_RATED = "Z"
 
-# For what a Price is left out that is for others, for another unit or of 0.
+# The reasons to leave out a Price that is for others, for another unit or of 0.
 OF_OTHERS = {"PriceQualifier", "PriceCondition", "PriceConstraint", "PricePer", "PriceAmount"}
 OF_OTHERS |= {"EpubLicense", "EpubLicenseWithDate"}
 
@@ -30,7 +30,7 @@ WITH_TAX = {"02", "04", "07", "09", "12", "14", "17", "22", "24", "27", "34", "4
 
 
 class Computed(NamedTuple):
-    """A price that a term computes: its type, the amount in hundredths, and from how many copies on."""
+    """A price that a term computes: its type, the amount in hundredths, and its least number of copies."""
 
     net: str
     amount: int
@@ -38,8 +38,8 @@ class Computed(NamedTuple):
 
 
 class Outcome(NamedTuple):
-    """What comes of a price: whether no term fits it, though there is one for its type and currency, how many computed
-    prices are held back, whether one comes to nothing, and those that are written."""
+    """What becomes of a price: whether no term fits it, though one has its type and currency; how many computed prices
+    are held back; whether one comes to nothing; and those that are written."""
 
     is_unfitted: bool
     held: int
@@ -50,7 +50,7 @@ class Outcome(NamedTuple):
 # Many prices of a feed have few percents and amounts.
 @cache
 def percent_of(text: str, is_of_feed: bool = False) -> Fraction | None:
-    """A percent of one to three digits and at most two decimals; in a feed zeros behind these count for nothing, and one
+    """A percent of one to three digits and at most two decimals; in a feed zeros after these are ignored, and a value
     between 0 and 1 is none."""
     found = re.fullmatch(r"([0-9]{1,3})(?:\.([0-9]{1,2})(0*))?", text, re.ASCII)
     if not found or found[3] and not is_of_feed:
@@ -96,13 +96,13 @@ def is_fitting(term: Term, one: Priced, supplier: str) -> bool:
 
 @cache
 def net_of(amount: str, percent: Fraction, tax: Fraction) -> int:
-    """Hundredths of the currency, of which a half is rounded up; never more than the amount."""
+    """Hundredths of the currency, halves rounded up; never more than the amount."""
     exact = Fraction(amount) * (100 - percent) / (100 + tax) * 100
     return min(int(exact + Fraction(1, 2)), int(Fraction(amount) * 100))
 
 
 def computed_of(term: Term, one: Priced) -> list[Computed]:
-    """What a term that fits computes: of the same quantity the least, where the first of them was."""
+    """What a fitting term computes: the least for each quantity, in the place of the first."""
     price = one.price
     tax = (tax_of(price) if term.tax == OF_FEED else percent_of(term.tax)) or Fraction(0)
     discounts = [(percent_of(term.percent), one.minimum())]
@@ -118,18 +118,18 @@ def computed_of(term: Term, one: Priced) -> list[Computed]:
 
 
 class Bought:
-    """What the shop pays by its terms, of the prices of a SupplyDetail with that supplier."""
+    """What the shop pays by its terms, for the prices of a SupplyDetail with that supplier."""
 
     def __init__(self, terms: tuple[Term, ...], found: list[Priced], supplier: str) -> None:
         self.terms = terms
         written = [one for one in found if one.is_written()]
         self.fitting = {one: next((term for term in terms if is_fitting(term, one, supplier)), None) for one in written}
-        # What holds computed prices back. Of each type and currency, the least that is written of the feed's prices.
+        # What holds computed prices back, and the least written price of the feed for each type and currency.
         self.least: dict[tuple[str, str], tuple[int, str]] = {}
         for one in written:
             rank = one.minimum(), days_of(one.price)[0]
             self.least[one.kind()] = min(rank, self.least.get(one.kind(), rank))
-        # The types and currencies of those that the desk cannot hold, each empty where it is as any.
+        # The types and currencies of prices that the desk cannot hold; an empty one counts as any.
         self.unwritten = {
             (one.price_type if is_code(one.price_type) else "", one.currency if is_currency(one.currency) else "")
             for one in found
@@ -156,7 +156,7 @@ class Bought:
 
 
 def computed_record(one: Computed, record: list[str]) -> list[str]:
-    """Behind the record of its price."""
+    """After the record of its price."""
     amount = f"{one.amount // 100}.{one.amount % 100:02}"
     return [record[0], one.net, amount, *record[3:9], *([str(one.minimum)] if one.minimum > 1 else [])]
 
@@ -179,7 +179,7 @@ def always_precedes(one: Term, other: Term) -> bool:
 
 
 def told_of(terms: tuple[Term, ...]) -> list[tuple[int, str]]:
-    """The number of each term of which something is said, and what."""
+    """The number of each term with a remark, and the remark."""
     told = []
     for number, term in enumerate(terms, 1):
         are_with_tax = {each in WITH_TAX for each in (*term.types, term.net)}

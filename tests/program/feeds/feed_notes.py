@@ -1,4 +1,4 @@
-"""What `onixdesk convert` says of its files on standard error, compared with what is wanted."""
+"""What `onixdesk convert` says of its files on standard error, compared with what is expected."""
 
 import re
 from collections.abc import Iterable
@@ -7,22 +7,22 @@ from typing import NamedTuple
 from tests.program.feeds.feed_oracle import COUNTED, Note
 from tests.program.feeds.feed_trees import Place
 
-# So many lines of notes a file has at most, and besides so many of products that are left out or emptied.
+# The most lines of notes on a file, and the most further ones on products that are left out or emptied.
 MOST_LINES = 1000
 
-# So many characters of a text a line shows.
+# How many characters of a text a line shows.
 MOST_SHOWN = 100
 
 
 class Said(NamedTuple):
-    """A line about a place of a file; the column is None where none is named."""
+    """A line about a place in a file; the column is None if none is named."""
 
     place: tuple[int, int | None]
     what: str
 
 
 class Errors(NamedTuple):
-    """The lines about each file, in their order, and those behind them all."""
+    """The lines about each file, in order, and those after them all."""
 
     of_files: dict[str, list[Said]]
     summary: list[str]
@@ -62,7 +62,7 @@ def tells(said: Said, note: Note) -> bool:
 
 
 class Compared(NamedTuple):
-    """What is wanted and was not said, and what was said and is not wanted."""
+    """What is missing, and what is not expected."""
 
     missing: list[tuple[Place, Note]]
     surplus: list[Said]
@@ -75,7 +75,7 @@ def lines_of(notes: list[Note]) -> int:
 
 
 def compared(wanted: list[Note], starts: dict[object, Place], said: Iterable[Said]) -> Compared:
-    """Each line is one note, whatever their order. Of more notes than there are lines some may be missing."""
+    """Each line is one note, in any order. If there are more notes than lines, some may be missing."""
     missing = [(starts[note.about], note) for note in wanted]
     surplus = []
     for line in said:
@@ -90,7 +90,7 @@ def compared(wanted: list[Note], starts: dict[object, Place], said: Iterable[Sai
     return Compared(missing, surplus)
 
 
-# The first line where a FILE has nothing of the supplier that is asked for.
+# The first line, if a FILE has nothing from the requested supplier.
 LACKING = "no SupplyDetail of the supplier of --supplier in a FILE with others"
 
 # How many products and notes there are, and how many of the products are wrong.
@@ -98,8 +98,8 @@ PRODUCTS, WRONG, NOTES = "products", "products wrong", "notes"
 
 
 def read_summary(lines: list[str]) -> dict[str, int]:
-    """How often each reason was given, and each of what is counted beside; ValueError where a line comes twice, or one
-    stands out of its place."""
+    """How often each reason was given, and each other count; raises ValueError if a line comes twice, or in the wrong
+    place."""
     found = [line.rpartition(": ") for line in lines]
     counts = {words: int(count) for words, _, count in found}
     words = list(counts)

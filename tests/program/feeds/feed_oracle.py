@@ -1,5 +1,4 @@
-"""What is to become of a message, read off its tree: the messages that are written, and the notes; or that
-it is refused."""
+"""What should become of a message, read off its tree: the written messages, and the notes; or that it is refused."""
 
 import re
 from collections import Counter
@@ -47,8 +46,8 @@ MOST_BYTES = 4_194_304
 BLOCK, UPDATE = "03", "04"
 KNOWN_TYPES = ("01", "02", "03", "04", "05")
 
-# Types of identifiers by which the desk finds an article, and what is taken out of their values where thirteen digits
-# are left then.
+# Types of identifiers by which the desk finds an article, and the characters removed from their values if that leaves
+# thirteen digits.
 ARTICLES = ("03", "15")
 HYPHENS = "-\u00ad\u2010\u2011\u2012\u2013\u2014\u2015\u2212"
 SPACES = " \u00a0\u2009\u202f"
@@ -56,7 +55,7 @@ SPACES = " \u00a0\u2009\u202f"
 Record = list[str]
 
 
-# What is counted without a note, as the summary calls it.
+# What the summary counts without a note.
 EMPTIED, UNPRICED = "products emptied", "products left without a Price"
 OF_WORLD = "products for the world without a Market, with SalesRights, not read"
 OF_OTHERS, OF_SEVERAL = "products of other suppliers alone", "products of several suppliers"
@@ -70,14 +69,14 @@ COUNTED = [
     *(ROUNDED, DIFFERING, UNFITTED, HELD_BACK, AGAIN, WITHOUT_PRODUCT),
 ]
 
-# A reason where any will do.
+# A reason, if any will do.
 ANY = ("",)
 
 
 @dataclass(frozen=True)
 class Note:
-    """A note on a composite. It tells one of the reasons, and names one of the names. `is_wrong` where the desk would
-    not take the composite, `is_of_product` where the note says that a product is left out or emptied."""
+    """A note on a composite. It gives one of the reasons and one of the names. `is_wrong` if the desk would not take
+    the composite, `is_of_product` if the note says that a product is left out or emptied."""
 
     about: object
     reference: str
@@ -88,8 +87,8 @@ class Note:
 
 
 class Refused(Exception):
-    """The message is refused, for what stands in this composite, or in none, and names each of these; before it stand
-    these notes."""
+    """The message is refused, for something in this composite, or in none, and the line names each of these; before it
+    come these notes."""
 
     def __init__(self, about: object = None, names: tuple[str, ...] = (), notes: list[Note] | None = None) -> None:
         self.about = about
@@ -99,14 +98,14 @@ class Refused(Exception):
 
 @dataclass(frozen=True)
 class Wrong:
-    """The desk would not take a composite, for reasons of which the note on it names one."""
+    """The desk would not take a composite; the note on it gives one of these reasons."""
 
     reasons: tuple[str, ...]
 
 
 @dataclass
 class Part:
-    """One of the messages that are written."""
+    """One of the written messages."""
 
     number: int
     records: list[Record]
@@ -116,7 +115,7 @@ class Part:
         return records_text(self.records)
 
     def has_room(self, records: list[Record]) -> bool:
-        """For these records, and an end behind them."""
+        """For these records, and an end after them."""
         count = len(self.records) + len(records)
         size = self.size + size_of(records) + size_of([["EndMessage", str(count)]])
         return count + 1 <= MOST_RECORDS and size <= MOST_BYTES
@@ -124,8 +123,8 @@ class Part:
 
 @dataclass
 class Verdict:
-    """What is to become of a message; `lacks_supplier` where it has nothing of the supplier that is asked for, and
-    something of others."""
+    """What should become of a message; `lacks_supplier` if it has nothing of the requested supplier, and something of
+    others."""
 
     parts: list[Part] = field(default_factory=list)
     notes: list[Note] = field(default_factory=list)
@@ -153,13 +152,13 @@ def is_identifier(id_type: str, value: str) -> bool:
 
 
 def those_there(identifiers: list[Identifier]) -> list[Identifier]:
-    """One with neither type nor value is as none."""
+    """One with neither type nor value counts as absent."""
     return [each for each in identifiers if each.id_type or each.value]
 
 
 def chosen(every: list[Identifier], words: Words) -> list[str] | None:
-    """The identifier that is written of several, chosen by its type alone; two empty fields where there is
-    none; None where the one that is chosen is no identifier."""
+    """The identifier that is written of several, chosen by its type alone; two empty fields if there is none; None if
+    the chosen one is not an identifier."""
     identifiers = those_there(every)
     if not identifiers:
         return ["", ""]
@@ -197,7 +196,7 @@ def addressee_of(message: Message, words: Words) -> list[str]:
 
 
 def number_of(message: Message, words: Words) -> int:
-    """The number of the first of the messages that are written."""
+    """The number of the first written message."""
     text = words.number or message.number.lstrip("0")
     if not is_number(text):
         raise Refused
@@ -208,7 +207,7 @@ def number_of(message: Message, words: Words) -> int:
 
 
 def opening_of(message: Message, words: Words) -> tuple[int, list[str], list[str]]:
-    """The number of the first message that is written, and what stands before and behind it."""
+    """The number of the first written message, and what stands before and after it."""
     if message.stranger or message.has_two_headers or not message.is_header_first:
         raise Refused
     sender, addressee = sender_of(message, words), addressee_of(message, words)
@@ -228,7 +227,7 @@ def opening_of(message: Message, words: Words) -> tuple[int, list[str], list[str
 
 
 def as_article(identifier: Identifier) -> Identifier:
-    """One by which the desk finds an article, as its thirteen digits alone; another one as it is."""
+    """An identifier by which the desk finds an article, as its thirteen digits alone; another one as it is."""
     digits = re.sub(f"[{HYPHENS}{SPACES}]", "", identifier.value)
     if identifier.id_type in ARTICLES and matches("[0-9]{13}", digits):
         return Identifier(identifier.id_type, digits)
@@ -240,8 +239,8 @@ def finds_article(identifier: Identifier) -> bool:
 
 
 def has_stranger(product: Product) -> bool:
-    """Whether an element that would count is in another namespace; of a deletion what stands beside and in its
-    identifiers alone is looked at."""
+    """Whether an element that would count is in another namespace; in a deletion only its identifiers and their
+    surroundings are checked."""
     stranger = product.stranger
     if stranger is None or product.notification != DELETION:
         return stranger is not None
@@ -256,14 +255,14 @@ class Judge:
         self.words = words
         self.product = product
         self.notes: list[Note] = []
-        # What is counted without a note of what is written.
+        # What is counted without a note in the written message.
         self.counts: Counter[str] = Counter()
-        # What is written of it where it is emptied.
+        # What is written if it is emptied.
         self.emptied: list[Record] = []
         self.is_emptied = False
-        # Whether a ProductSupply without a Market is written of it.
+        # Whether a ProductSupply without a Market is written.
         self.is_of_world = False
-        # Whether it is written, and all its SupplyDetails are of other suppliers than that which is asked for.
+        # Whether it is written, and all its SupplyDetails are from other suppliers than the requested one.
         self.is_of_others = False
 
     def note(
@@ -277,7 +276,7 @@ class Judge:
         self.notes.append(Note(about, self.product.reference, reasons or ANY, names, is_wrong, of_product))
 
     def note_territory(self, territory: Territory | None) -> None:
-        """What of a territory that is written is left out or read as something else."""
+        """What a written territory leaves out or reads as something else."""
         for region in regions_left_out(territory) if territory else []:
             self.note(territory, REGION, names=(region,), is_wrong=is_country(region))
         for country in read_as_others(territory) if territory else []:
@@ -289,7 +288,7 @@ class Judge:
         return self.emptied
 
     def records(self) -> list[Record] | None:
-        """What is written of it in a message that has room for all of it; None where it is left out."""
+        """What is written in a message with room for all of it; None if it is left out."""
         product = self.product
         if not is_filled(product.reference):
             self.note(product, "RecordReference", is_wrong=True, of_product=True)
@@ -323,7 +322,7 @@ class Judge:
         return [own, *records]
 
     def records_too_large(self) -> list[Record]:
-        """What is written of it where no message has room for all of it."""
+        """What is written if no message has room for all of it."""
         if not self.is_emptied:
             self.notes = [note for note in self.notes if isinstance(note.about, Identifier)]
             self.counts.clear()
@@ -336,7 +335,7 @@ class Judge:
         return BLOCK if notification == UPDATE or not is_code(notification) else notification
 
     def record(self, notification: str, identifiers: list[Identifier]) -> Record:
-        """Its own record, where the reference stands for identifiers that are not there."""
+        """Its own record, in which the reference stands for missing identifiers."""
         reference = self.product.reference
         return ["Product", reference, notification, *pairs(identifiers or [Identifier("01", reference)])]
 
@@ -419,7 +418,7 @@ class Judge:
         return [record, *(one for each in written for one in self.computed(each, bought))]
 
     def computed(self, priced: Priced, bought: Bought) -> list[Record]:
-        """The record of a price that is written, and behind it those that the terms compute of it."""
+        """The record of a written price, and after it those that the terms compute from it."""
         found = bought.outcome_of(priced)
         self.counts[UNFITTED] += found.is_unfitted
         self.counts[HELD_BACK] += found.held
@@ -442,7 +441,7 @@ class Judge:
 
 
 def market_fields(market: Market) -> list[str] | Wrong | None:
-    """Its fields, None where the desk has none for it."""
+    """Its fields, or None if the desk has none for it."""
     if market.territory is None:
         return Wrong(("Territory",))
     if regions_in_the_way(market.territory):
@@ -454,7 +453,7 @@ def market_fields(market: Market) -> list[str] | Wrong | None:
 
 
 def why_market(market: Market, fields: list[str] | Wrong | None) -> tuple[str, ...]:
-    """What a line names that says why a Market is left out, one of these."""
+    """Names, one of which the line gives as the reason why a Market is left out."""
     return fields.reasons if isinstance(fields, Wrong) else tuple(regions_in_the_way(market.territory or Territory()))
 
 
@@ -470,7 +469,7 @@ def size_of(records: list[Record]) -> int:
 
 
 class Filling:
-    """Messages that are filled with products one after the other."""
+    """Fills messages with products, one after the other."""
 
     def __init__(self, number: int, before: Record, behind: Record) -> None:
         self.number = number
@@ -506,21 +505,21 @@ class Filling:
 
 
 def had_price(product: Product) -> bool:
-    """Whether it had a Price with an amount; of a deletion none is looked at."""
+    """Whether it had a Price with an amount; those of a deletion are not checked."""
     details = [detail for supply in product.supplies for detail in supply.details]
     return product.notification != DELETION and any(price.amount for detail in details for price in detail.prices)
 
 
 def are_several(records: list[Record]) -> bool:
-    """Whether the suppliers of these SupplyDetails differ: by type and value, or by name where neither has them."""
+    """Whether the suppliers of these SupplyDetails differ: by type and value, or by name if neither has them."""
     suppliers = [record[2:5] for record in records if record[0] == "SupplyDetail"]
     return len({(*pair, "" if any(pair) else name) for *pair, name in suppliers}) > 1
 
 
 @dataclass
 class Judged:
-    """What was found of the products of a message: those that are wrong, but for those of other suppliers alone, the
-    notes on each, and what is counted."""
+    """What was found in the products of a message: the wrong ones, without those of other suppliers alone, the notes on
+    each, and the counts."""
 
     wrong: list[Product] = field(default_factory=list)
     notes: dict[Product, list[Note]] = field(default_factory=dict)
@@ -549,11 +548,11 @@ class Judged:
             self.counts[DETAIL_OF_ANOTHER] += product.details_of_others
 
     def number(self) -> int:
-        """How many products there are, but for those of other suppliers alone."""
+        """How many products there are, without those of other suppliers alone."""
         return len(self.notes) - self.counts[OF_OTHERS]
 
     def is_let_through(self, wrong: str) -> bool:
-        """Whether there are no more wrong products than that word of the command line lets through."""
+        """Whether that word of the command line lets these wrong products through."""
         count, products = len(self.wrong), self.number()
         if wrong == "all" or count == 0:
             return True
@@ -568,14 +567,14 @@ class Judged:
 
 
 def lacks_supplier(message: Message) -> bool:
-    """Whether none of its SupplyDetails is of the supplier that is asked for, and one of another; a deletion has none."""
+    """Whether no SupplyDetail is from the requested supplier, and one is from another; a deletion has none."""
     products = [each for each in message.products if each.notification != DELETION]
     has_of_others = any(each.details_of_others for each in products)
     return has_of_others and not any(each.details_of_it for each in products)
 
 
 def judge(message: Message, words: Words) -> Verdict:
-    """What is to become of a message."""
+    """What should become of a message."""
     judged = Judged()
     try:
         filling = Filling(*opening_of(message, words))

@@ -19,21 +19,21 @@ from tests.program.feeds.feed_territories import (
 )
 from tests.program.feeds.feed_trees import Detail, Message, Price, PriceDate
 
-# The reason where a region is in the way.
+# The reason, if a region is in the way.
 REGION = "Region"
 
-# What of a Price is not read and would make another one.
+# Parts of a Price that are not read and would change it.
 DISCOUNTS = ["Discount", "DiscountCoded"]
 
 FIRST, LAST, BOTH = "14", "15", "24"
 
-# The formats of a day, with a time behind it or without, of a month and of a year.
+# The formats of a day, with or without a time after it, of a month and of a year.
 DAYS, MONTH, YEAR = ("00", "13", "14"), "01", "05"
 
 # The formats that a Date may have in each role that counts.
 FORMATS = {FIRST: (*DAYS, MONTH, YEAR), LAST: (*DAYS, MONTH, YEAR), BOTH: ("06",)}
 
-# From what to what a Date says, in the form of its format: a year, a month and a day of it.
+# The first and last of what a Date says, in its format: a year, a month and a day.
 FORMS = {
     **dict.fromkeys(DAYS, r"([0-9]{4})([0-9]{2})([0-9]{2})(?:T.*)?|([0-9]{4})-([0-9]{2})-([0-9]{2})(?:T.*)?"),
     MONTH: r"([0-9]{4})([0-9]{2})|([0-9]{4})-([0-9]{2})",
@@ -54,7 +54,7 @@ def format_of(date: PriceDate) -> str:
 
 
 def days_between(date_format: str, text: str) -> tuple[str, str]:
-    """The first day and the last one of a day, a month or a year; two empty texts where it is none."""
+    """The first and the last day of a day, a month or a year; two empty texts if it is none."""
     found = re.fullmatch(FORMS[date_format], text, re.ASCII)
     if not found:
         return "", ""
@@ -67,14 +67,14 @@ def days_between(date_format: str, text: str) -> tuple[str, str]:
 
 
 def days_of_date(date: PriceDate) -> dict[str, str]:
-    """The days that a Date of its format gives, by the role of one; an empty text where it has not that form."""
+    """The days that a Date gives by its format and role; an empty text if it does not have that format."""
     if date.role == BOTH:
         return {FIRST: date.text[:8], LAST: date.text[8:] if len(date.text) == 16 else ""}
     return {date.role: days_between(format_of(date), date.text)[date.role == LAST]}
 
 
 def days_of(price: Price) -> list[str]:
-    """The first day and the last one, of dates in formats that count."""
+    """The first day and the last one, from dates in formats that count."""
     days = {FIRST: "", LAST: ""}
     for date in reversed(dates_of(price)):
         days |= days_of_date(date)
@@ -107,7 +107,7 @@ LONGER = re.compile(r"([0-9]{1,9})\.([0-9]{3})([0-9]*[1-9])0*", re.ASCII)
 
 
 def amount_of(price: Price) -> str:
-    """Without the zeros behind the third decimal; of more decimals it is rounded, halves up."""
+    """Without zeros after the third decimal; with more decimals it is rounded, halves up."""
     if found := LONGER.fullmatch(price.amount):
         thousandths = int(found[1] + found[2]) + (found[3] >= "5")
         return f"{thousandths // 1000}.{thousandths % 1000:03}"
@@ -120,12 +120,12 @@ def is_rounded(price: Price) -> bool:
 
 
 def own_quantity(price: Price) -> str:
-    """One of zeros alone is as absent."""
+    """One of zeros alone counts as absent."""
     return "" if set(price.quantity) <= {"0"} else price.quantity
 
 
 def quantity_of(price: Price, detail: Detail) -> str:
-    """Its own, or that of its SupplyDetail where that is greater or there is none."""
+    """Its own, or that of its SupplyDetail if that is greater or it has none."""
     own, other = own_quantity(price), detail.minimum
     if not is_quantity(other):
         return own
@@ -133,12 +133,12 @@ def quantity_of(price: Price, detail: Detail) -> str:
 
 
 def gives_nothing(price: Price, unpriced: str) -> bool:
-    """Whether it says that there is no price, by itself or by the UnpricedItemType in the record of its SupplyDetail."""
+    """Whether it says that there is no price, itself or by the UnpricedItemType in its SupplyDetail's record."""
     return price.amount == "" and not price.is_coded and (is_code(price.unpriced) or unpriced != "")
 
 
 def foreign_reasons(price: Price) -> list[str]:
-    """What of it the desk has no field for."""
+    """Its parts that the desk has no field for."""
     found = {
         "PriceQualifier": price.qualifier not in ORDINARY,
         "PricePer": is_unusual(price.per),
@@ -156,7 +156,7 @@ def foreign_reasons(price: Price) -> list[str]:
 
 
 def wrong_reasons(price: Price, message: Message) -> list[str]:
-    """What of it the desk would not take, where it has a field for all of it."""
+    """What the desk would not take in it, though it has fields for all of it."""
     included, _world, excluded = territory_fields(price.territory)
     found = {
         "PriceType": not is_code(price.price_type or message.price_type),
@@ -180,8 +180,7 @@ Alike = tuple[Kind, int, str, str]
 @dataclass(eq=False)
 class Priced:
     """A Price as it would be written, and why it is not: what the desk has no field for, and what it would not take.
-    The type and the currency are those of the header where it has none; `is_unpriced` where it says that there is no
-    price."""
+    The type and the currency are the header's if it has none; `is_unpriced` if it says that there is no price."""
 
     price: Price
     price_type: str
@@ -199,7 +198,7 @@ class Priced:
         return not self.is_unpriced and not self.reasons()
 
     def is_written_but_for_amount(self) -> bool:
-        """One without an amount also but for its type and currency."""
+        """One without an amount is included, except for its type and currency."""
         of_amount = {"PriceAmount"} if self.price.amount else {"PriceAmount", "PriceType", "CurrencyCode"}
         return self.reasons() <= of_amount
 
@@ -233,7 +232,7 @@ def priced(price: Price, detail: Detail, message: Message, unpriced: str) -> Pri
 
 
 def prices_of(detail: Detail, message: Message, unpriced: str) -> list[Priced]:
-    """Those of a SupplyDetail. One that would be written but for its dates closes others of its type and currency."""
+    """Those of a SupplyDetail. If only its dates keep a Price out, it closes others of its type and currency."""
     found = [priced(each, detail, message, unpriced) for each in detail.prices]
     closed = {each.kind() for each in found if each.reasons() == {"Date"}}
     for each in found:
@@ -248,12 +247,12 @@ def is_as(kind: Kind, other: Kind) -> bool:
 
 
 def put_narrower_first(found: list[Priced]) -> None:
-    """A price for the world does not hold where one that is alike has a country of its own."""
+    """A price for the world does not hold in the countries of one that is alike."""
     narrow = [each for each in found if each.is_written_but_for_amount() and not is_world(each.territory)]
 
     @cache
     def narrower(alike: Alike) -> list[str]:
-        """The countries of those that are alike; what one without an amount lacks is as any other."""
+        """The countries of those that are alike; a part that one without an amount lacks counts as any."""
         kind, *rest = alike
         those = [each for each in narrow if [*each.alike()[1:]] == rest and is_as(each.kind(), kind)]
         return [country for each in those for country in countries_in(each.territory)]
@@ -269,7 +268,7 @@ def put_narrower_first(found: list[Priced]) -> None:
 
 
 def count_differing(written: list[Priced]) -> int:
-    """How many stand behind one that is alike, for the same countries, and has another amount."""
+    """How many follow one that is alike, for the same countries, with another amount."""
     amounts: dict[object, set[Fraction]] = {}
     count = 0
     for each in written:

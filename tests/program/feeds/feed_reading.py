@@ -33,10 +33,10 @@ from tests.program.feeds.feed_trees import (
 
 DECLARED = re.compile(r"""<\?xml\s+version\s*=\s*["']1\.0["'](?:\s+encoding\s*=\s*["']([A-Za-z][\w.-]*)["'])?""")
 
-# With it expat refuses the names of HTML, which are declared outside of the document.
+# With it expat refuses HTML's names, which are declared outside the document.
 ALONE = re.compile(rb"""<\?xml\s[^>]*\bstandalone\s*=\s*["']yes""")
 
-# A name with two colons, which Namespaces in XML has not.
+# A name with two colons, which Namespaces in XML forbids.
 TWO_COLONS = re.compile(rb"</?[^<>\s/:]*:[^<>\s/:]*:|</?:|<[^<>\s/]*:[\s/>]")
 
 # The elements that count below each composite.
@@ -66,7 +66,7 @@ COUNTED = {
     "PriceDate": "PriceDateRole DateFormat Date",
 }
 
-# Those that count besides where there are terms of the shop.
+# Those that count besides if the shop has terms.
 COUNTED_WITH_TERMS = COUNTED | {
     "Price": f"{COUNTED['Price']} Tax",
     "DiscountCoded": "DiscountCodeType DiscountCodeTypeName DiscountCode",
@@ -74,10 +74,10 @@ COUNTED_WITH_TERMS = COUNTED | {
     "Tax": "TaxRateCode TaxRatePercent",
 }
 
-# The elements that are no texts, and count also where they are empty.
+# The elements that are no texts, and count even if they are empty.
 COMPOSITES = {*COUNTED_WITH_TERMS, "PriceCoded", "EpubLicense", "EpubLicenseWithDate"}
 
-# Those of them that are counted alone, and are no strangers.
+# Those of them that are only counted, and are no strangers.
 COUNTED_ALONE = ["PublishingDetail", "SalesRights", *DISCOUNTS]
 
 REFERENCE_NAMES = {tag: name for name, tag in SHORT_TAGS.items()}
@@ -94,10 +94,10 @@ OLD = [
 ]
 OLD_OF_DETAIL = ["SupplyToCountry", "SupplyToRegion", "SupplyToCountryExcluded", "SupplyToTerritory"]
 
-# What the terms of the shop read in a Price: what is wrong there is of no other consequence.
+# What the shop's terms read in a Price: a mistake there has no other effect.
 OF_TERMS = [*DISCOUNTS, "Tax"]
 
-# What repeats, is counted alone, or has nothing to read; and where there are notes on what comes again.
+# Elements that repeat, are only counted, or have nothing to read; and those with notes on what comes again.
 REPEATABLE = "NoProduct Product Addressee SenderIdentifier AddresseeIdentifier ProductIdentifier ProductSupply Market"
 REPEATABLE += (
     " SupplyDetail SupplierIdentifier Price PublishingDetail SalesRights PriceCondition PriceConstraint PriceDate"
@@ -109,11 +109,11 @@ OF_XML = "http://www.w3.org/XML/1998/namespace"
 
 
 class Malformed(Exception):
-    """It is no well-formed XML."""
+    """It is not well-formed XML."""
 
 
 class NoMessage(Exception):
-    """Its root is not that of a message, or it has a name that nobody knows."""
+    """Its root is not that of a message, or it has an unknown name."""
 
 
 class Read(NamedTuple):
@@ -124,7 +124,7 @@ class Read(NamedTuple):
 
 
 def is_read(data: bytes) -> bool:
-    """Whether a feed is one that is read here."""
+    """Whether this reader can read the feed."""
     declared = DECLARED.match(data.decode("latin-1"))
     encoding = (declared[1] if declared else None) or "UTF-8"
     is_marked = data.startswith((codecs.BOM_UTF8, codecs.BOM_UTF16_LE, codecs.BOM_UTF16_BE))
@@ -133,7 +133,7 @@ def is_read(data: bytes) -> bool:
 
 
 def declarations(data: bytes) -> str:
-    """Declarations of the names of HTML that a feed has, but for those of XML."""
+    """Declarations of HTML's names in a feed, without those of XML."""
     found = {name.decode() for name in re.findall(rb"&([A-Za-z0-9]+);", data)} - {"amp", "lt", "gt", "apos", "quot"}
     texts = {name: html5[f"{name};"] for name in sorted(found) if f"{name};" in html5}
     return "".join(
@@ -147,7 +147,7 @@ def words_of(text: str) -> str:
 
 @dataclass(eq=False)
 class Element:
-    """An element: its reference name, empty where it does not count, where it begins, and what stands in it."""
+    """An element: its reference name, empty if it does not count, where it begins, and its contents."""
 
     name: str
     start: int
@@ -170,7 +170,7 @@ class Element:
         return next(filter(None, (each.own_text() for each in self.all(name))), "")
 
     def repeated(self) -> list["Element"]:
-        """Those in it that do not repeat and come again: a text behind the first one that is not empty."""
+        """Elements in it that do not repeat and come again: a text after the first one that is not empty."""
         seen: set[str] = set()
         again = []
         for each in self.below:
@@ -180,20 +180,19 @@ class Element:
         return again
 
     def again(self) -> str:
-        """The name of an element that comes again, but in a PriceDate and in what terms read; empty where there is
-        none."""
+        """The name of an element that comes again, outside a PriceDate and what terms read; empty if there is none."""
         below = [each.again() for each in self.below if each.name not in ("PriceDate", *OF_TERMS)]
         return next(filter(None, [each.name for each in self.repeated()] + below), "")
 
     def count_again(self) -> int:
-        """How many elements come again in what is read of it, but where there are notes on that."""
+        """How many elements come again in what is read of it, without those with notes on that."""
         unread = [*NOTED, "ProductSupply"] if self.text("NotificationType") == DELETION else NOTED
         again = self.repeated()
         read = [each for each in self.below if each.name not in unread and each not in again]
         return len(again) + sum(each.count_again() for each in read)
 
     def all_strangers(self) -> list[Stranger]:
-        """Those in it, but in what terms read."""
+        """The elements in it, without what terms read."""
         own = [each for each in self.strangers if each.name not in OF_TERMS]
         below = [each for each in self.below if each.name not in OF_TERMS]
         return own + [stranger for each in below for stranger in each.all_strangers()]
@@ -205,17 +204,17 @@ class Element:
         return is_strange or any(each.strangers or each.repeated() for each in read)
 
     def suppliers(self) -> list[tuple[str, str]]:
-        """The types and values of the first Supplier of a SupplyDetail, or two empty texts where it has a name alone;
-        none where it is of nobody."""
+        """The types and values of the first Supplier of a SupplyDetail, or two empty texts if it has only a name; None
+        if it is nobody's."""
         first = self.first("Supplier")
         found = first.all("SupplierIdentifier") if first else []
         pairs = [(each.text("SupplierIDType"), each.text("IDValue")) for each in found]
         return [pair for pair in pairs if any(pair)] or [("", "")] * bool(first and first.text("SupplierName"))
 
     def leave_out_others(self, supplier: tuple[str, str]) -> tuple[int, int]:
-        """Takes the SupplyDetails of other suppliers from a Product, and the ProductSupplies that have only such ones.
-        Of the strangers below a SupplyDetail those stay that are a Supplier or are in one. How many SupplyDetails are of
-        that supplier, and of others."""
+        """Removes the SupplyDetails of other suppliers from a Product, and the ProductSupplies that have only such
+        ones. Strangers below a SupplyDetail stay if they are a Supplier or in one. Returns how many SupplyDetails are
+        from that supplier, and from others."""
         of_it = of_others = 0
         for supply in self.all("ProductSupply"):
             details = supply.all("SupplyDetail")
@@ -233,7 +232,7 @@ class Element:
 
 
 class Elements:
-    """Reads the elements of a document, those that count by their namespace; with terms of the shop more do."""
+    """Reads the elements of a document that count by their namespace; with terms of the shop more do."""
 
     def __init__(self, has_terms: bool) -> None:
         self.has_terms = has_terms
@@ -264,7 +263,7 @@ class Elements:
         parser.EndElementHandler = lambda _name: self.end()
         parser.CharacterDataHandler = lambda text: self.around[-1].texts.append(text)
         parser.DefaultHandlerExpand = other
-        # What is no text, and is not looked at.
+        # Not a text, and not checked.
         parser.CommentHandler = lambda _text: None
         parser.ProcessingInstructionHandler = lambda _target, _text: None
         try:
@@ -296,7 +295,8 @@ class Elements:
         self.release = attributes.get("release", "")
 
     def counted(self, local: str, address: str) -> str:
-        """The reference name of an element, empty where it does not count; a stranger is told to what is around it."""
+        """The reference name of an element, empty if it does not count; a stranger is reported to the element around
+        it."""
         if not self.around:
             return "ONIXMessage"
         parent = self.around[-1]
@@ -386,7 +386,7 @@ class Trees:
         supplies = [self.supply(each) for each in of.all("ProductSupply")]
         identifiers = self.identifiers(of, "Product")
         product = Product(of.text("RecordReference"), of.text("NotificationType"), identifiers, supplies)
-        # Of a deletion those count that stand before others.
+        # In a deletion those count that stand before others.
         own = sorted(of.all_strangers(), key=lambda each: each.within not in ("Product", "ProductIdentifier"))
         product.stranger = next(iter(own), None)
         product.details_of_it, product.details_of_others = of_it, of_others
@@ -433,8 +433,8 @@ def code_of(element: Element) -> tuple[str, str, str]:
 
 
 def read(data: bytes, words: Words) -> Read:
-    """The message of a feed, with what terms of the shop read if there are any, and without the SupplyDetails of others
-    where one supplier is asked for. Malformed, or NoMessage, where it is none."""
+    """The message of a feed, including what the shop's terms read if it has any, and without the SupplyDetails of
+    others if one supplier is requested. Malformed, or NoMessage, if it is none."""
     trees = Trees(data, words.supplier)
     return Read(trees.message(Elements(words.terms is not None).read(data)), trees.starts)
 

@@ -6,7 +6,7 @@ from collections.abc import Callable
 from functools import cache
 
 
-# The same few texts stand in many places of a feed.
+# The same few texts occur in many places of a feed.
 @cache
 def matches(pattern: str, text: str) -> bool:
     return re.fullmatch(pattern, text, re.ASCII) is not None

@@ -1,13 +1,11 @@
-"""Territories of the trees: which the desk can hold, what is left out of them, and what several are
-together."""
+"""Territories of the trees: which the desk can hold, what they leave out, and the union of several."""
 
 from tests.program.feeds.feed_terms import are_countries, is_country, matches
 from tests.program.feeds.feed_trees import Territory
 
 WORLD = "WORLD"
 
-# All that could be a code of a country, and one place that has none, so that the world can be told from
-# any list of countries.
+# All possible codes of countries, and a place without one, so that the world differs from any list of countries.
 LETTERS = "ABCDEFGHIJKLMNOPQRSTUVWXYZ"
 EVERY_COUNTRY = {first + second for first in LETTERS for second in LETTERS}
 ELSEWHERE = "elsewhere"
@@ -26,20 +24,20 @@ def is_part_of_a_country(region: str) -> bool:
 
 
 def regions_alone(territory: Territory) -> list[str]:
-    """The regions that are included without a country and without the world."""
+    """Regions that are included without a country and without the world."""
     included = regions_of(territory.regions)
     return included if territory.included == "" and WORLD not in included else []
 
 
 def regions_in_the_way(territory: Territory) -> list[str]:
-    """The regions for which the desk cannot hold a territory."""
+    """Regions for which the desk cannot hold a territory."""
     alone = [region for region in regions_alone(territory) if not is_country(region)]
     excluded = [region for region in regions_of(territory.excluded_regions) if not is_country(region)]
     return alone + [region for region in excluded if not is_part_of_a_country(region)]
 
 
 def countries_in_the_way(territory: Territory) -> list[str]:
-    """The countries among the regions, for which the desk would not take a territory."""
+    """Countries among the regions, with which the desk would not take a territory."""
     return [
         region for region in regions_alone(territory) + regions_of(territory.excluded_regions) if is_country(region)
     ]
@@ -50,19 +48,19 @@ def is_silent(territory: Territory) -> bool:
 
 
 def wrong_in(territory: Territory) -> list[str]:
-    """What is wrong with a territory but for its countries: a reason each."""
+    """What is wrong with a territory, except for its countries: a reason each."""
     silent = ["Territory"] if is_silent(territory) else []
     return silent + (["comes again"] if territory.again else []) + countries_in_the_way(territory)
 
 
 def regions_left_out(territory: Territory) -> list[str]:
-    """The regions of a territory that is written all the same, as often as they stand."""
+    """The regions of a territory that is written nevertheless, as often as they occur."""
     included = [region for region in regions_of(territory.regions) if region != WORLD]
     return included + regions_of(territory.excluded_regions)
 
 
 def read_as_others(territory: Territory) -> list[str]:
-    """The countries of a territory that are read as others, as often as they stand."""
+    """The countries of a territory that are read as others, as often as they occur."""
     countries = f"{territory.included} {territory.excluded}".split(" ")
     return [country for country in countries if country in READ_AS]
 
@@ -72,7 +70,7 @@ def countries_of(text: str) -> str:
 
 
 def territory_fields(territory: Territory | None) -> list[str]:
-    """A territory as it stands, but for countries that are read as others."""
+    """A territory as it is, except for countries that are read as others."""
     if territory is None:
         return ["", "", ""]
     world = WORLD if WORLD in regions_of(territory.regions) else ""
@@ -86,12 +84,12 @@ def are_taken(fields: list[str]) -> bool:
 
 
 def is_world(fields: list[str]) -> bool:
-    """Whether it is the world, less some countries or none."""
+    """Whether it is the world, perhaps without some countries."""
     return fields[0] == "" or fields[1] == WORLD
 
 
 def countries_in(fields: list[str]) -> list[str]:
-    """Those of a territory of countries, in their order."""
+    """The countries of a territory, in order."""
     return [country for country in fields[0].split() if country not in fields[2].split()]
 
 
@@ -102,7 +100,7 @@ def places_of(fields: list[str]) -> frozenset[str]:
 
 
 def union_fields(territories: list[list[str]]) -> list[str]:
-    """The fields of the territory that these are together."""
+    """The fields of the union of these territories."""
     if len(territories) == 1:
         return territories[0]
     places = frozenset[str]().union(*map(places_of, territories))

@@ -32,13 +32,13 @@ class Territory:
     regions: str = ""
     excluded: str = ""
     excluded_regions: str = ""
-    # An element in it that comes again, or the name of itself, where there is another behind it.
+    # An element in it that comes again, or its own name, if another one follows.
     again: str = ""
 
 
 @dataclass(eq=False)
 class Market:
-    """`territory` is None where there is none."""
+    """`territory` is None if there is none."""
 
     territory: Territory | None
 
@@ -98,8 +98,8 @@ class Price:
 
 @dataclass(eq=False)
 class Detail:
-    """A SupplyDetail. `identifiers` is None where it has no Supplier; `minimum` is its OrderQuantityMinimum; `old` has
-    the texts of elements of ONIX 2.1 by their names."""
+    """A SupplyDetail. `identifiers` is None if it has no Supplier; `minimum` is its OrderQuantityMinimum; `old` has the
+    texts of elements of ONIX 2.1 by their names."""
 
     role: str
     identifiers: list[Identifier] | None
@@ -112,8 +112,8 @@ class Detail:
 
 
 class Stranger(NamedTuple):
-    """An element in the first composite of that name which has the name of one that counts there, and does not count:
-    it is in another namespace than the root's, of the other kind of names, or in another case of letters."""
+    """An element in the first composite of that name that has the name of one that counts there, but does not count: it
+    is in another namespace than the root's, of the other kind of names, or in another case of letters."""
 
     within: str
     name: str
@@ -127,8 +127,8 @@ class Supply:
 
 @dataclass(eq=False)
 class Product:
-    """A product. Where one supplier is asked for, `details_of_it` and `details_of_others` are how many SupplyDetails the
-    product had of it and of others, which do not stand in `supplies`."""
+    """A product. If one supplier is requested, `details_of_it` and `details_of_others` count the product's
+    SupplyDetails of it and of others, which are not in `supplies`."""
 
     reference: str
     notification: str
@@ -146,9 +146,9 @@ class Product:
 
 @dataclass(eq=False)
 class Message:
-    """A message. `sender` is None where it has no Sender; `is_header_first` is false where its Header
-    stands behind its products, and `has_two_headers` true where there is one there too; `says_none` where it has a
-    NoProduct; `again` counts the elements that come again in what is read of it, and have no note."""
+    """A message. `sender` is None if it has no Sender; `is_header_first` is false if its Header comes after its
+    products, and `has_two_headers` true if one comes there too; `says_none` if it has a NoProduct; `again` counts the
+    elements without a note that come again in what is read."""
 
     sender: list[Identifier] | None
     addressees: list[list[Identifier]]
@@ -167,7 +167,7 @@ class Message:
 
 @dataclass(frozen=True)
 class Term:
-    """One of the shop's terms; `codes`, `scheme`, `supplier`, `currency` and `tax` are empty where it has none."""
+    """One of the shop's terms; `codes`, `scheme`, `supplier`, `currency` and `tax` are empty if it has none."""
 
     types: tuple[str, ...]
     net: str
@@ -186,8 +186,7 @@ class Term:
 
 @dataclass(frozen=True)
 class Words:
-    """The words of the command line that decide what is written. The shop's terms, if there are any, are in a file of a
-    name."""
+    """The words of the command line that decide what is written. The shop's terms, if there are any, are in a file."""
 
     parts: int = 1
     number: str = ""

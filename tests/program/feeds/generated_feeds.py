@@ -46,7 +46,7 @@ from tests.program.feeds.feed_trees import TERMS, Message, Place, Term, Words
 from tests.program.room import Group, Ran, Room
 from tests.running import Outcome
 
-# What makes the feeds is asked for by the groups alone, which are left out where it is not there.
+# Only the groups import what makes the feeds; without it they are left out.
 NEEDS = [f"{DEBIAN_PYTHON}/hypothesis"]
 
 # So many feeds a group has, and one of large feeds.
@@ -54,7 +54,7 @@ EXAMPLES, LARGE_EXAMPLES = 150, 20
 
 
 class Wanted(NamedTuple):
-    """What is to come of a feed, and the places of its composites; no message where it has none."""
+    """What should become of a feed, and the places of its composites; no message if it has none."""
 
     verdict: Verdict
     message: Message | None
@@ -69,7 +69,7 @@ def wanted_of(data: bytes, words: Words) -> Wanted:
 
 
 def outcomes(feed: str, words: Words, wanted: Wanted, room: Room) -> Iterator[Outcome]:
-    """What comes of a feed in one run."""
+    """What becomes of a feed in one run."""
     table = "".join(term.toml() for term in words.terms or ())
     room.write(TERMS, table.encode())
     room.write(FEED, feed.encode())
@@ -84,7 +84,7 @@ def outcomes(feed: str, words: Words, wanted: Wanted, room: Room) -> Iterator[Ou
 
 
 def said_of(wanted: Wanted, said: list[Said]) -> list[object]:
-    """The notes that are missing, and the lines that nobody wants. A refusal stands behind the notes on it."""
+    """The missing notes, and the lines that nobody expects. A refusal follows the notes on it."""
     refusal = wanted.verdict.refusal
     if not refusal:
         missing, surplus = compared(wanted.verdict.notes, wanted.starts, said)
@@ -98,7 +98,7 @@ def said_of(wanted: Wanted, said: list[Said]) -> list[object]:
 
 
 def summed(wanted: Wanted, lines: list[str]) -> tuple[object, object]:
-    """What the last lines count: notes, products, and what has no note."""
+    """The counts in the last lines: notes, products, and what has no note."""
     verdict = wanted.verdict
     if verdict.refusal or not wanted.message:
         return lines, []
@@ -112,7 +112,7 @@ def summed(wanted: Wanted, lines: list[str]) -> tuple[object, object]:
 
 class Kind(NamedTuple):
     """Feeds of a kind: the names of the strategies in tests/strategies/feeds.py, how many a share has and how many
-    shares there are, and what is to be seen in each."""
+    shares there are, and what each must show."""
 
     name: str
     feeds: str
@@ -132,7 +132,7 @@ KINDS = [
 
 
 def seen_in(wanted: Wanted, words: Words) -> Iterator[str]:
-    """What a feed shows of its kind."""
+    """The features that a feed shows."""
     verdict = wanted.verdict
     yield from ["refused"] * (verdict.refusal is not None) + ["wrong"] * (verdict.wrong_products > 0)
     yield from {record[0] for part in verdict.parts for record in part.records}
@@ -145,7 +145,7 @@ def seen_in(wanted: Wanted, words: Words) -> Iterator[str]:
 
 
 def tried(run: Callable[..., None], share: int, examples: int, *names: str) -> None:
-    """Runs it on what these strategies make until it fails, and then on what is as small as can be."""
+    """Runs it on what these strategies make until it fails, and then on the smallest failing example."""
     from hypothesis import HealthCheck, Phase, Verbosity, given, seed, settings
 
     from tests.strategies import feeds as strategies
@@ -163,8 +163,8 @@ def tried(run: Callable[..., None], share: int, examples: int, *names: str) -> N
 
 
 def check(kind: Kind, share: int, room: Room) -> Iterator[Outcome]:
-    """The first feed of that kind of which something else comes than what is wanted, made as small as it can be; or what
-    the desk says of the messages, all of which it can read."""
+    """The first feed of that kind that becomes something else than expected, made as small as possible; or what the
+    desk says of the messages, all of which it can read."""
     seen: Counter[str] = Counter()
     wrong: list[Outcome] = []
     messages: list[str] = []
@@ -196,7 +196,7 @@ SAID = {"never counts": NEVER, "has no tax": MIXED, "has a tax": TAXED}
 
 
 def tables_of_terms(room: Room) -> Iterator[Outcome]:
-    """What is said of the first table of which something else is said than what is wanted, or that each is said."""
+    """The remarks on the first table that gets others than expected; or that all are as expected."""
     seen: Counter[str] = Counter()
     wrong: list[Outcome] = []
 

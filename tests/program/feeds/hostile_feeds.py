@@ -1,5 +1,5 @@
-"""Feeds that are made to harm: `onixdesk convert` refuses each by one line, and writes nothing, or passes over what
-is in it, within a bound on memory and time; no other file and no address is opened."""
+"""Feeds that are made to harm: `onixdesk convert` refuses each by one line, and writes nothing, or ignores what is in
+it, within limits of memory and time; it opens no other file and no address."""
 
 import contextlib
 import os
@@ -16,18 +16,18 @@ from tests.program.room import Group, Ran, Room
 from tests.program.written_cases import REPEATED, TESTS, Written, read_file, unescaped
 from tests.running import Outcome
 
-# More than a message takes of memory, and far less than these feeds have.
+# More memory than a message takes, and far less than these feeds have.
 MEMORY = 48 * 1_048_576
 
 PLACE = re.compile("onixdesk: -:[12]:[0-9]+: refused: .+\n")
 
-# Of processor time, with the start of the program: of what is refused at once, and of what is read to its end.
+# Limits of processor time, including the program's start: for what is refused at once, and for what is read to its end.
 BOMB_SECONDS, LARGE_SECONDS = 1, 120
 
 FRAME = FRAMES["products"]
 
-# Words of the cases of tests/hostile: the beginning of a feed up to its products, what follows these, a product, and the
-# beginning of a feed that is so long that its entities may give a gigabyte.
+# Words of the cases of tests/hostile: the beginning of a feed up to its products, what follows these, a product, and
+# the beginning of a feed that is so long that its entities may give a gigabyte.
 ENTITIES = '<!DOCTYPE ONIXMessage [<!ENTITY e "(x){100000}"><!ENTITY f "(&e;){100}">]>'
 WORDS = {
     "MUCH": f"{ENTITIES}BEFORE{'<x>(x){1000000}</x>' * 12}",
@@ -45,8 +45,7 @@ def numbered(piece: str, number: int) -> str:
 
 
 def pieces(text: str) -> Iterator[bytes]:
-    """The bytes of a text with the escapes of Python. In what is repeated {n} is how many went before, {n+1} one
-    more."""
+    """The bytes of a text with Python's escapes. In repeated text {n} is how many went before, {n+1} one more."""
     at = 0
     for found in REPEATED.finditer(text):
         piece, count = found[1], int(found[2])
@@ -61,8 +60,8 @@ def pieces(text: str) -> Iterator[bytes]:
 
 
 class Case(NamedTuple):
-    """A feed, the words with which it is converted, and of one that is taken all the same, since what it has too much
-    of is passed over, the references of its products."""
+    """A feed, and the words with which it is converted; if it is accepted nevertheless, since its excess is ignored,
+    the references of its products."""
 
     name: str
     pieces: Callable[[], Iterator[bytes]]
@@ -71,7 +70,7 @@ class Case(NamedTuple):
 
 
 def case_of(written: Written) -> Case:
-    """A feed stands between BEFORE and BEHIND, if neither they nor a declaration of XML are there."""
+    """A feed stands between BEFORE and BEHIND, unless they or an XML declaration are in it."""
     text = written.text.strip("\n")
     if not any(word in text for word in ("<?xml", "MUCH", "BEFORE")):
         text = f"BEFORE{text}BEHIND"
@@ -115,7 +114,7 @@ def check(case: Case, seconds: float, room: Room) -> Iterator[Outcome]:
 
 @contextlib.contextmanager
 def listening() -> Iterator[tuple[int, socket.socket]]:
-    """A port, and the connections that came to it."""
+    """A port, and the connections to it."""
     with socket.socket() as listener:
         listener.bind(("127.0.0.1", 0))
         listener.listen()
@@ -124,8 +123,8 @@ def listening() -> Iterator[tuple[int, socket.socket]]:
 
 
 def nothing_else_is_opened(room: Room) -> Iterator[Outcome]:
-    """Neither a file nor an address that a feed names: a pipe at the file would block whoever opens it,
-    and the port tells of each connection."""
+    """Neither a file nor an address that a feed names is opened: a pipe as the file would block whoever opens it, and
+    the port notes each connection."""
     os.mkfifo(room.path("pipe"))
     with listening() as (port, listener):
         for address in [f"http://127.0.0.1:{port}/x", room.path("pipe").as_uri(), "pipe"]:

@@ -1,4 +1,4 @@
-"""Feeds with namespaces that are made to harm: `onixdesk convert` takes each within a bound on memory."""
+"""Feeds with namespaces that are made to harm: `onixdesk convert` accepts each within a limit of memory."""
 
 from collections.abc import Iterator
 from functools import partial
@@ -10,13 +10,13 @@ from tests.program.room import SECONDS, Group
 ROOT = "urn:root"
 OTHER = "urn:other"
 
-# The most attributes that a tag may have, declarations of namespaces too.
+# The most attributes of a tag, declarations of namespaces included.
 MOST = 64
 
 # An address, or a prefix, that nearly fills a tag.
 LONG = "x" * 60_000
 
-# Fewer elements within one another than there may be.
+# Fewer elements within one another than allowed.
 DEEP = 990
 
 
@@ -25,7 +25,7 @@ def declared(prefixes: range, address: str, form: str = "p{}") -> str:
 
 
 def feed(declarations: str, *within: str, root: str = ROOT) -> Iterator[bytes]:
-    """A feed whose root has the namespace without a prefix, with these declarations, and this in it."""
+    """A feed whose root has the namespace without a prefix, with these declarations, and with this in it."""
     before = FRAME.before.replace("<ONIXMessage ", f'<ONIXMessage xmlns="{root}"{declarations} ')
     for text in (before, *within, FRAME.behind):
         yield text.encode()
@@ -36,13 +36,13 @@ def element(declarations: str, within: str = "") -> str:
 
 
 def nested(declarations: list[str], within: str) -> Iterator[str]:
-    """Elements within one another, whose declarations are these in turn."""
+    """Elements within one another, with these declarations in turn."""
     for number in range(DEEP):
         yield f"<x{declarations[number % len(declarations)]}>"
     yield within + "</x>" * DEEP
 
 
-# A few less than a tag may have, with the one that has no prefix.
+# A few less than a tag may have, with the one without a prefix.
 AS_MANY = declared(range(1, 60), ROOT)
 
 CASES = [

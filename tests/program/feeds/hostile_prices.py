@@ -1,4 +1,4 @@
-"""SupplyDetails of many prices, each of which might be held against each: what comes of them, within a bound on time."""
+"""SupplyDetails of many prices, which might each be compared with each: what comes of them, in limited time."""
 
 from collections.abc import Iterator
 from functools import partial
@@ -11,7 +11,7 @@ from tests.program.feeds.feed_trees import TERMS
 from tests.program.room import Group, Room
 from tests.running import Outcome
 
-# Of processor time, with the start of the program.
+# Processor time, including the start of the program.
 SECONDS = 20
 
 FRAME = FRAMES["prices"]
@@ -34,7 +34,7 @@ def record(amount: str, place: str, minimum: int = 1, own: str = "") -> str:
 
 
 class Case(NamedTuple):
-    """Prices, the table of terms, and the records of the prices, none where the product is emptied."""
+    """Prices, the table of terms, and the records of the prices; None if the product is emptied."""
 
     name: str
     prices: list[str]
@@ -70,7 +70,7 @@ def cases() -> Iterator[Case]:
         [record("12.00", "")] * 9_999,
         f'{{ {TERM}, codes = ["02,A"] }}',
     )
-    # The first net price is the feed's for four copies: what is computed for as many or more is held back.
+    # The first net price is the feed's for four copies: computed prices for as many or more are held back.
     nets = [at % 4 == 0 for at in range(8_001)]
     yield Case(
         "8,000 least quantities, of which each fourth has a net price",

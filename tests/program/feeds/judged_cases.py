@@ -1,4 +1,4 @@
-"""The cases of tests/conversions want what the oracle says of them, so that each tries the other."""
+"""The cases of tests/conversions expect what the oracle says of them, so that each tests the other."""
 
 import re
 import tomllib
@@ -11,7 +11,7 @@ from tests.program.feeds.feed_trees import Term, Words
 from tests.program.room import Room
 from tests.running import Outcome
 
-# Of XML expat knows the fourth edition, and takes other versions; it has no bound on depth.
+# expat knows the fourth edition of XML, and accepts other versions; it has no limit of depth.
 OTHERWISE = [
     "names that the fifth edition has and the fourth has not",
     "versions that are none",
@@ -29,8 +29,8 @@ def agreed(room: Room) -> Iterator[Outcome]:
 
 
 def judged(case: case_files.Case, feed: case_files.Feed) -> tuple[object, object]:
-    """What the oracle says of a case, and what that wants: the records, the places of the notes and whether each is
-    wrong, and whether it is refused."""
+    """What the oracle says of a case, and what the case expects: the records, the places of the notes and whether each
+    is wrong, and whether it is refused."""
     wanted = feed.wanted
     lines = [(line, False) for line in wanted.notes] + [(line, True) for line in wanted.wrong]
     places = sorted((*map(int, re.findall("^([0-9]+):([0-9]+)", line)[0]), is_wrong) for line, is_wrong in lines)
@@ -46,7 +46,7 @@ def judged(case: case_files.Case, feed: case_files.Feed) -> tuple[object, object
 
 
 def terms_of(table: str) -> tuple[Term, ...] | None:
-    """Those of an array in TOML, of which each is as the desk wants it; none, if there is no array."""
+    """The items of an array in TOML if each is as the desk wants it; None if there is no array."""
     lists = "types", "codes"
     tables = tomllib.loads(f"term = {table}")["term"] if table else None
     made = (Term(**each | {name: tuple(each.get(name, ())) for name in lists}) for each in tables or ())

@@ -25,7 +25,7 @@ def look(room: Room, *words: Word, **like: str) -> Ran:
 
 
 def sections(ran: Ran) -> dict[str, list[str]]:
-    """The lines below each title, without the spaces in front."""
+    """The lines below each title, without leading spaces."""
     found = {}
     for part in ran.output.decode().split("\n\n"):
         title, *lines = part.splitlines()
@@ -90,7 +90,7 @@ def what_is_in_it(room: Room) -> Iterator[Outcome]:
     yield Outcome("what to paste", [each for title, each in found.items() if title.startswith("To paste")], [paste])
 
 
-# What a feed says of its number, the first number to agree, and NUMBER.
+# What a feed says of its number, the first number to agree on, and NUMBER.
 NUMBERS = [
     ("<MessageNumber>7</MessageNumber>", 7, "own"),
     ("", 1, "next"),
@@ -101,7 +101,7 @@ NUMBERS = [
 
 
 def numbers(room: Room) -> Iterator[Outcome]:
-    """A feed without a number is looked at under 1; a number that is a date is none to count on."""
+    """A feed without a number is looked at as number 1; a number that is a date cannot be counted on."""
     for text, first, kind in NUMBERS:
         room.write("south.xml", feed([product(0, supplied(PRICE))], text))
         lines = look(room, "south.xml").output.decode()
@@ -114,7 +114,7 @@ TOO_FEW = ROOT / "crates/feed_files/src/refusal.rt"
 
 
 def parts(room: Room) -> Iterator[Outcome]:
-    """Where the converter says that two messages are needed there are two, and four times as many are to be agreed."""
+    """If the converter says that two messages are needed, there are two, and four times as many to agree on."""
     needs = sought(r'"(the message needs \{count\} parts)', TOO_FEW.read_text(encoding="utf-8")).format(count=2)
     program = script(
         room,
@@ -172,7 +172,7 @@ def refused(room: Room) -> Iterator[Outcome]:
 
 
 def terms(room: Room) -> Iterator[Outcome]:
-    """Of retail prices alone a shop that pays net prices is told to write terms, with the table for their codes."""
+    """With retail prices alone, a shop that pays net prices is told to write terms, with the table for their codes."""
     products = [
         product(place, supplied(price))
         for place, price in enumerate([coded("A", "Harper"), coded("B"), coded("B"), PRICE])

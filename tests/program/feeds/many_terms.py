@@ -14,14 +14,14 @@ from tests.running import Outcome
 
 PRODUCTS = 20_000
 
-# So many records of a product: its own, the supply, the detail, a price and what is computed of it.
+# A product's records: its own, the supply, the detail, a price and the computed one.
 RECORDS_OF_ONE = 5
 PARTS = PRODUCTS * RECORDS_OF_ONE // 19_998 + 1
 
-# A thousand codes, of which so many are in each of fifteen terms.
+# A thousand codes; each of fifteen terms has so many of them.
 CODES, TERMS = 1_000, 15
 
-# So much memory a conversion takes at most.
+# How much memory a conversion takes at most.
 MOST_MEMORY = 16_000_000
 
 

@@ -1,4 +1,4 @@
-"""The examples of docs/ONIX.md: each is XML and, behind it, the notes and the records that come of it."""
+"""The examples of docs/ONIX.md: each is XML, followed by its notes and records."""
 
 import re
 from collections.abc import Iterator
@@ -12,7 +12,7 @@ from tests.running import Outcome
 
 DOCUMENT = "docs/ONIX.md"
 
-# Where an example stands, by its first element. That of a Market has a SupplyDetail behind it, which is not shown.
+# Where an example belongs, by its first element. That of a Market has a SupplyDetail after it, which is not shown.
 PLACES = {
     "Header": FRAMES["message"],
     "Product": FRAMES["products"],
@@ -24,7 +24,7 @@ PLACES = {
 
 NOT_SHOWN = {"Market": ["SupplyDetail,04,,,North,21,"]}
 
-# A note, without its place, or what is not read; what else the summary counts is shown by some examples alone.
+# A note, without its place, or a count of what is not read; some examples alone show the other counts.
 NOTE = re.compile(r"onixdesk: (?:[^ ]+:[0-9]+:[0-9]+: (.*)|(.*, not read: [0-9]+)|(.*: [0-9]+|[0-9]+ of .*))")
 
 # The words, or the one term, by which an example is converted.
@@ -32,7 +32,7 @@ WORDS, TERM = re.compile("--"), re.compile("types = ")
 
 
 class Example(NamedTuple):
-    """The name of the first element, the XML, and the lines behind it."""
+    """The name of the first element, the XML, and the lines after it."""
 
     first: str
     xml: str
@@ -52,7 +52,7 @@ def examples() -> list[Example]:
 
 
 def shown(example: Example, room: Room) -> list[str]:
-    """The notes and the records that come of an example, as the document has them."""
+    """The notes and the records of an example, as the document has them."""
     frame = example.frame()
     room.write(FEED, f"{frame.before}\n{example.xml}{frame.behind}".encode())
     words, terms = ([line for line in example.lines if each.match(line)] for each in (WORDS, TERM))

@@ -1,5 +1,5 @@
-"""The sample feeds in tests/feeds: whole messages, the records that they give, byte for byte, and the places of notes.
-Of `left-out` two products are wrong."""
+"""The sample feeds in tests/feeds: whole messages, their records, byte for byte, and the places of notes. Two products
+of `left-out` are wrong."""
 
 import re
 from collections.abc import Iterator
@@ -17,8 +17,7 @@ FOLDER = ROOT / "tests/feeds"
 
 PATHS = sorted(FOLDER.glob("*.xml"))
 
-# The notes on the feed `left-out`: the RecordReference, and the element whose start tag the line and
-# the column name.
+# The notes on the feed `left-out`: the RecordReference, and the element whose start tag is at the line and column.
 NOTED = [
     ("fr.librairie.0001", "Price"),
     ("fr.librairie.0001", "Price"),
@@ -38,13 +37,13 @@ NOTED = [
 
 
 def element_at(feed: list[str], place: Place) -> str:
-    """The element whose start tag is at a place of the feed."""
+    """The element whose start tag is at a place in the feed."""
     found = re.match("<([A-Za-z]+)", feed[place.line - 1][place.column - 1 :])
     return found[1] if found else ""
 
 
 def noted(path: Path, errors: bytes) -> list[tuple[str, str]]:
-    """The RecordReference of each note, and the element whose start tag its place names."""
+    """The RecordReference of each note, and the element at its place."""
     feed = path.read_text(encoding="latin-1").splitlines()
     found = []
     for line in errors.decode().splitlines():

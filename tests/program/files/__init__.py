@@ -1,1 +1,1 @@
-"""Tests of what stands beside a desk's file: copies, restores, the follower, metrics, mails and starts."""
+"""Tests of the programs beside a desk's file: copies, restores, the follower, prices, mails and starts."""

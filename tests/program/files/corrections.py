@@ -1,4 +1,4 @@
-"""correct.sh, with stand-ins of the programs that it calls, which write down each call."""
+"""correct.sh, with stand-ins for the programs that it calls, which write down each call."""
 
 import os
 import signal
@@ -19,7 +19,7 @@ Message,2,06,N,06,S,2,1,,,
 EndMessage,1
 """
 
-# The corrected text is kept by the restore, whose status is that of a file.
+# The restore keeps the corrected text, and its status is that of a file.
 PROGRAMS = {
     "desk-copy": "mkdir before",
     "onixdesk": 'if [ "$4" = gaps ]; then echo "gaps,north,first=1,next=3,greatest=2"; else cat "$ROOM/text"; fi',
@@ -34,7 +34,7 @@ CALLS = ["desk-copy", "onixdesk", "onixdesk", "desk-restore", "systemctl"]
 
 
 def corrected(room: Room, *words: str, status: int = 0) -> tuple[int, list[str]]:
-    """The status, and what was called."""
+    """The status, and the calls."""
     folder = room.path("programs")
     folder.mkdir(exist_ok=True)
     for name, text in PROGRAMS.items():

@@ -1,5 +1,5 @@
-"""Copies of a desk by desk-copy: of one that takes messages all the while, and of files that are changed, wrong or
-missing; with the ledgers of its inboxes."""
+"""Copies by desk-copy: of a desk that takes messages all the while, and of files that change, are wrong or missing;
+with the ledgers of its inboxes."""
 
 import os
 import random
@@ -33,11 +33,11 @@ PROGRAM = ROOT / "bin/desk-copy"
 COPIES = 20
 AT_ONCE = 2
 
-# Products of a message, which brings each of them at a new price. The log is copied into the database every some
-# fifty messages.
+# Products of a message, which gives each of them a new price. The log is copied into the database about every fifty
+# messages.
 PRODUCTS = 40
 
-# Between two messages: none, or one in which a copy can be taken.
+# The pause between two messages: none, or one in which a copy can be taken.
 PAUSES = [0, 0, 0, 0.002, 0.15, 0.4, 0.8]
 
 
@@ -47,7 +47,7 @@ def copy(room: Room, *words: Word) -> Ran:
 
 
 class Sender:
-    """Sends messages to a desk, one after the other, and counts those that it has answered."""
+    """Sends messages to a desk, one after the other, and counts the answered ones."""
 
     def __init__(self, desk: Serving) -> None:
         self.desk = desk
@@ -73,7 +73,7 @@ def sending(room: Room) -> Iterator[Sender]:
     """A desk that takes messages all the while."""
     batch(room, AGREEMENT)
     with serving(room, ["--db", DATABASE], None) as desk:
-        # The lines of `serve` are read, or it would wait.
+        # Somebody reads the lines of `serve`, or it would wait.
         assert desk.process.stdout
         threading.Thread(target=desk.process.stdout.read, daemon=True).start()
         sender = Sender(desk)
@@ -91,15 +91,15 @@ SELECT (SELECT next_number FROM series), (SELECT count(*) FROM applied), (SELECT
 
 
 def counted(database: Path) -> Row:
-    """The next number, how many messages and prices a copy has, and the least and the greatest amount, as SQLite
-    reads it."""
+    """The next number, how many messages and prices a copy has, and the least and the greatest amount, as SQLite reads
+    it."""
     with closing(sqlite3.connect(f"{database.as_uri()}?mode=ro", uri=True)) as connection:
         (found,) = connection.execute(COUNTED).fetchall()
     return tuple(found)
 
 
 def first_next(room: Room, database: Path) -> int:
-    """The next number of the series, as the desk says that opens the copy."""
+    """The next number of the series, as a desk that opens the copy says."""
     ran = room.run("--db", database, "--existing", "gaps", "north")
     found = re.fullmatch(rb"gaps,north,first=1,next=(\d+),greatest=\d*,held=0,missing=0\n", ran.output)
     return int(found[1]) if found else -1
@@ -245,7 +245,7 @@ def written_meanwhile(room: Room) -> Iterator[Outcome]:
 
 
 def memory(room: Room) -> Iterator[Outcome]:
-    """Files whose start may take more than half of its memory are an error, once the copy is there."""
+    """If a start may need more than half of its memory, that is an error, after the copy is made."""
     shop = shop_in(room, "memory")
     for megabytes, is_told in ((750, False), (850, True)):
         machine = shop.machine()
@@ -259,7 +259,7 @@ STRIDE = int(os.environ.get("ONIXDESK_STRIDE", "3"))
 
 
 def killed(kind: str, room: Room) -> Iterator[Outcome]:
-    """At each call: what has the name of a copy is whole, as many as there were are left, and the next run mends it."""
+    """At each call: each folder named as a copy is whole, there are as many as before, and the next run cleans up."""
     wrong, at = [], 1
     while True:
         shop = shop_in(room, f"{kind}{at}")

@@ -1,4 +1,4 @@
-"""bin/desk-follow without a server: what it refuses. The tests on PostgreSQL are tests/postgres."""
+"""bin/desk-follow without a server: what it refuses. tests/postgres has the tests on PostgreSQL."""
 
 from collections.abc import Iterator
 

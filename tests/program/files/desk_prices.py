@@ -29,8 +29,8 @@ def message(sender: str, *rows: str) -> str:
     return "\n".join([*lines, f"EndMessage,{len(lines)}\n"])
 
 
-# North has the first two, of which the second is not to be had, and states what readers pay of the first alone; south has
-# the first one dearer, and what readers pay of the second.
+# North has the first two, the second one not available, and a recommended price only for the first; south has the first
+# one dearer, and a recommended price for the second.
 NORTH = message(
     "N",
     *product(
@@ -69,7 +69,7 @@ def run(room: Room, *words: str) -> Ran:
     return room.call([ROOT / "bin/desk-prices", *places, "--day", "20250310", *words, DATABASE, "till"])
 
 
-# How the inbox of north stands, of which nothing waits; and each value by which its rows may be old.
+# The report of north's inbox while nothing waits; and each value that makes its rows old.
 SHOWN: dict[str, Any] = {"desk": True, "silent": False, "next": 2, "greatest": 1}
 SHOWN |= dict.fromkeys(("quarantined", "refused", "waiting"), 0)
 OLD = {"desk": False, "silent": True, "greatest": 3, "quarantined": 1, "refused": 1, "waiting": 1}
@@ -96,7 +96,7 @@ def a_file_of_prices(room: Room) -> Iterator[Outcome]:
     came = run(room)
     yield Outcome("a wrong key", (came.status, came.errors), (2, b"desk-prices: desk.json: price_file: file\n"))
     came = run(room, "--day", "20250230")
-    yield Outcome("no day of the calendar", (came.status, b"20250230 is no day YYYYMMDD" in came.errors), (2, True))
+    yield Outcome("no day of the calendar", (came.status, b"20250230 is not a day YYYYMMDD" in came.errors), (2, True))
 
 
 def rows_that_may_be_old(room: Room) -> Iterator[Outcome]:

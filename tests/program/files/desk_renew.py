@@ -1,4 +1,4 @@
-"""A desk that is renewed: what the new one has, what the inboxes do then, and a renewal that is ended anywhere."""
+"""A renewed desk: what the new one has, what the inboxes do then, and a renewal that ends anywhere."""
 
 import os
 from collections.abc import Iterator
@@ -53,8 +53,8 @@ def product(reference: str, notification: str = "03", *, amount: str = "8") -> l
     ]
 
 
-# Of north messages 1 to 5 are applied, with a repeat, an update, a deletion and a waiver, and 7, 8 and 10 wait; of
-# south all articles were deleted; of west nothing has come; of east a number waits before the first one.
+# Of north, messages 1 to 5 are applied, with a repeat, an update, a deletion and a waiver, and 7, 8 and 10 wait; south
+# has all articles deleted; west has got nothing; of east a number waits before the first one.
 DESK = (
     AGREEMENTS
     + message(NORTH, 1, *product("R1"), *product("R2"), *product('"R 3,""x"'))
@@ -83,7 +83,7 @@ below the next numbers; corrections of the desk's text reach back to the new fir
 
 
 def kept(room: Room, file: str) -> dict[str, list[tuple[object, ...]]]:
-    """What a renewed desk has as the one before: all rows but those of applied numbers, and no first number."""
+    """What a renewed desk has like the old one: all rows except those of applied numbers, and no first number."""
     rows = all_rows(room, file)
     del rows["applied"]
     return rows | {"series": [row[:5] + row[6:] for row in rows["series"]]}
@@ -118,7 +118,7 @@ def renewed(room: Room, machine: Machine, **more: object) -> int:
 
 
 def of_before(room: Room) -> list[str]:
-    """The names of what stood there before."""
+    """The names of the old files."""
     return sorted({path.name.removesuffix("-wal") for path in room.folder.glob(f"{DATABASE}.2*")})
 
 
@@ -151,7 +151,7 @@ def too_few_numbers(room: Room) -> Iterator[Outcome]:
 
 
 def what_differs(room: Room) -> Iterator[Outcome]:
-    """A row that is another one is a failure, and so is a program that is killed as it makes the new desk."""
+    """A different row is a failure, and so is a program that is killed while it makes the new desk."""
     batch(room, DESK.encode())
     told = catalogue.territory
     catalogue.territory = lambda included, world, excluded: told(included, world, "")
@@ -226,7 +226,7 @@ def without_a_yes(room: Room) -> Iterator[Outcome]:
 
 
 def unanswered(room: Room) -> Iterator[Outcome]:
-    """A message that is being posted has its answer before the inboxes stop; the run of a minute sees to that."""
+    """A message that is being posted gets its answer before the inboxes stop; the run of each minute sees to that."""
     shop = shop_in(room, "unanswered")
     shop.inbox.work(lambda inbox: inbox.ledger.set_message(5, "posted"))
     yield Outcome("renewed", (run(shop), standing(shop)), (0, RENEWED))
@@ -241,7 +241,7 @@ def unanswered(room: Room) -> Iterator[Outcome]:
 
 
 class WrittenMeanwhile(ShopMachine):
-    """A desk to which a number is waived, and a feed comes, while the new one is made."""
+    """A desk where a number is waived, and a feed comes, while the new one is made."""
 
     def run(self, words: Words, *others: Any, **more: Any) -> Ended:
         if words[-1] == "batch" and 10 not in self.shop.inbox.series.had:
@@ -262,7 +262,7 @@ STRIDE = int(os.environ.get("ONIXDESK_STRIDE", "9"))
 
 
 def killed(kind: str, room: Room) -> Iterator[Outcome]:
-    """At each call: then no desk stands there, or one of both; the same command ends it."""
+    """At each call: then no desk is there, or one of the two; the same command finishes it."""
     wrong, at = [], 1
     while True:
         at += STRIDE

@@ -1,4 +1,4 @@
-"""A copy that is put into the place of a desk: what is said before, what is made again, and what the inboxes post."""
+"""A restored copy: what is said before, what is made again, and what the inboxes post."""
 
 import argparse
 import os
@@ -25,7 +25,7 @@ from tests.shop.inboxes import SERIES
 OPTIONS: dict[str, Any] = dict.fromkeys(("yes", "gaps", "before_correction"), False)
 OPTIONS |= {"text": None, "refuse": None, "said": "it was wrong"}
 
-# Of the calls of a restore each so many'th is tried; ONIXDESK_STRIDE=1 tries all.
+# Every so many'th call of a restore is tried; ONIXDESK_STRIDE=1 tries all.
 STRIDE = int(os.environ.get("ONIXDESK_STRIDE", "9"))
 
 
@@ -36,7 +36,7 @@ def shop_in(room: Room, name: str, **settings: object) -> Shop:
 
 
 def run(shop: Shop, copy: Path, machine: ShopMachine | None = None, **more: object) -> int:
-    """The status of a restore; its lines and what it wrote are the shop's then."""
+    """The status of a restore; the shop has its lines and its output."""
     machine = machine or shop.machine()
     options = argparse.Namespace(**shop.options, **{**OPTIONS, **more}, copy=copy)
     try:
@@ -53,7 +53,7 @@ def price(shop: Shop, reference: str = "R1") -> str:
 
 
 def four_days(shop: Shop) -> Path:
-    """A feed, a copy, and three feeds behind it."""
+    """A feed, a copy, and three feeds after it."""
     shop.send(("1.xml", feed_of(1, {"R1": "10.00"})))
     copy = shop.take_copy("2026-11-27T02-30-12Z")
     shop.send(*((f"{day}.xml", feed_of(day, {"R1": f"1{day}.00"})) for day in (2, 3, 4)))
@@ -86,7 +86,7 @@ def has_of(path: Path) -> list[int]:
 
 
 def refused_before(room: Room) -> Iterator[Outcome]:
-    """A bad feed that is refused by the line that was printed does not come back."""
+    """A bad feed that the printed line refuses does not come back."""
     shop = shop_in(room, "refused", number=NEXT)
     copy = four_days(shop)
     wrong = shop.take_copy("2026-11-30T02-30-12Z")
@@ -115,7 +115,7 @@ def output_that_breaks(room: Room) -> Iterator[Outcome]:
 
 
 def desk_that_does_not_start(room: Room) -> Iterator[Outcome]:
-    """Nothing is lost: the line starts the desk, and the inbox mends the rest."""
+    """Nothing is lost: the line starts the desk, and the inbox does the rest."""
     shop = shop_in(room, "start", number=NEXT)
     copy = four_days(shop)
     shop.failing = UNITS[0]
@@ -130,7 +130,7 @@ def desk_that_does_not_start(room: Room) -> Iterator[Outcome]:
 
 
 def inbox_that_is_off(room: Room) -> Iterator[Outcome]:
-    """Of a wholesaler that is gone: it is not waited for, and the line is what posts again what the desk lacks."""
+    """For a wholesaler that is gone, nobody waits, and the line posts again what the desk lacks."""
     shop = shop_in(room, "off")
     copy = four_days(shop)
     shop.started, shop.is_inbox_run = {*UNITS[:2]}, False
@@ -165,7 +165,7 @@ def what_cannot_come_again(room: Room) -> Iterator[Outcome]:
 
 
 def agreements_and_waivers(room: Room) -> Iterator[Outcome]:
-    """What was made since is made again; what the copy lacks and nobody knows is told, and its files wait."""
+    """What was made since is made again; what the copy lacks and nobody knows is reported, and its files wait."""
     shop = shop_in(room, "since")
     assert shop.inbox.desk
     series = shop.inbox.desk.series.pop(SERIES)
@@ -209,7 +209,7 @@ def copies_that_are_refused(room: Room) -> Iterator[Outcome]:
 
 
 def ledgers(room: Room) -> Iterator[Outcome]:
-    """A ledger of the copy has its place only where there is none."""
+    """A ledger of the copy is put in place only if there is none."""
     shop = shop_in(room, "ledgers", number=NEXT)
     copy = four_days(shop)
     yield Outcome("where there is one", (run(shop, copy), has(shop)), (0, [1, 2, 3, 4]))
@@ -222,7 +222,8 @@ def ledgers(room: Room) -> Iterator[Outcome]:
 
 
 def corrections(room: Room) -> Iterator[Outcome]:
-    """A desk of a corrected text: what came meanwhile is there too, and a copy from before is known, by any name."""
+    """A desk made from a corrected text: what came meanwhile is there too, and an earlier copy is recognized, by any
+    name."""
     shop = shop_in(room, "corrections")
     night = four_days(shop)
     assert shop.inbox.desk
@@ -249,7 +250,8 @@ def corrections(room: Room) -> Iterator[Outcome]:
 
 
 def held_at_a_wrong_number(room: Room) -> Iterator[Outcome]:
-    """A date was taken for a number, and let in: the file is refused, taken out of the text, and taken again under the next number."""
+    """A date was taken for a number, and let in: the file is refused, taken out of the text, and taken again under the
+    next number."""
     shop = shop_in(room, "held")
     shop.send(("1.xml", feed_of(1, {"R1": "10.00"})), ("date.xml", feed_of(2025, {"R1": "12.00"})))
     mark = next(file.mark for file in shop.inbox.files() if file.name == "date.xml")
@@ -270,7 +272,7 @@ def held_at_a_wrong_number(room: Room) -> Iterator[Outcome]:
 
 
 def waiver_taken_back(room: Room) -> Iterator[Outcome]:
-    """The message of a number that was waived arrived: the waiver is taken out of the text, and not made again."""
+    """The message of a waived number came: the waiver is taken out of the text, and not made again."""
     shop = shop_in(room, "waived")
     shop.send(("1.xml", feed_of(1, {"R1": "10.00"})))
     shop.inbox.work(lambda inbox: decide.waive(inbox, range(2, 3)))
@@ -290,7 +292,7 @@ OTHER = "06", "4012345000016"
 
 
 def renamed(shop: Shop, name: str) -> int:
-    """The sender becomes another one in the desk's text: the status of the restore, by a copy of that name."""
+    """The sender changes in the desk's text: the status of the restore, by a copy of that name."""
     assert shop.inbox.desk
     copy = shop.take_copy(name)
     text = shop.copies.with_name(f"{name}.csv")
@@ -299,7 +301,7 @@ def renamed(shop: Shop, name: str) -> int:
 
 
 def another_identifier(room: Room) -> Iterator[Outcome]:
-    """A copy from before the correction is put into place: what came since waits until that is made again."""
+    """A copy from before the correction is restored: what came since waits until the correction is made again."""
     shop = shop_in(room, "identifier")
     copy = four_days(shop)
     shop.inbox.settings = replace(shop.inbox.settings, sender=OTHER)
@@ -319,7 +321,7 @@ def another_identifier(room: Room) -> Iterator[Outcome]:
 
 
 def killed(kind: str, room: Room) -> Iterator[Outcome]:
-    """At each call: then no desk stands there, or one of both; the next run ends it, and nothing is lost."""
+    """At each call: then no desk is there, or one of the two; the next run finishes it, and nothing is lost."""
     wrong, at = [], 1
     while True:
         at += STRIDE

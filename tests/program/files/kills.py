@@ -1,4 +1,4 @@
-"""Programs that are killed at some of their system calls or moments, of which tests/killed tries more, and the desk."""
+"""Programs that are killed at some of their system calls or moments, and the desk; tests/killed tries more of them."""
 
 from collections.abc import Iterator
 from functools import partial
@@ -9,7 +9,7 @@ from tests.kills.of_fetch import disk_that_takes_nothing
 from tests.program.room import Group, Room, needs
 from tests.running import Outcome
 
-# Of each program so many calls that give a file another name, and half as many of the others, or so many moments.
+# For each program so many calls that rename a file, and half as many of the others, or so many moments.
 MOST = 4
 
 

@@ -1,5 +1,5 @@
-"""A shop's machine in a room: what the pages' commands name stands in folders of the room, and the commands are run as
-the pages have them, at a desk and an inbox that run."""
+"""A shop's machine in a room: the places that the pages' commands name are folders of the room, and the commands run as
+the pages have them, at a running desk and inbox."""
 
 import contextlib
 import os
@@ -34,8 +34,8 @@ FOLDERS = [
 
 OF_DESK = f"--db ROOM/{DESK} --inboxes ROOM/var/lib/onixdesk-inbox --settings ROOM/etc/onixdesk/inbox"
 
-# The stand-ins of what is the machine's, and the shop's programs with the room's places. The desk runs beside what
-# starts it, and its number is there as long as it. That the timer of an inbox starts is one run of it.
+# Stand-ins for the machine's commands, and the shop's programs with the room's places. The desk runs beside its parent;
+# its process number is there while it runs. Starting an inbox's timer is one run of the inbox.
 PROGRAMS = {
     "runuser": 'shift 3; exec "$@"',
     "onixdesk": 'exec "PROGRAM" "$@"',
@@ -91,14 +91,14 @@ class Machine:
         script(room, "usr/share/onixdesk/correct.sh", self.placed(correct))
 
     def placed(self, text: str) -> str:
-        """A text that names the room's places in place of the machine's."""
+        """A text with the room's places instead of the machine's."""
         for place in ("/var/", "/etc/onixdesk", "/run/onixdesk/", "/usr/share/onixdesk/"):
             text = text.replace(place, f"{self.room.folder}{place}")
         return text
 
     def run(self, lines: list[str], said: str = "yes\n") -> Ran:
-        """Runs lines as root pastes them: what asks reads what comes behind its line. Where nothing asks for the answer,
-        it is a command that keeps the status."""
+        """Runs lines as root pastes them: a command that asks reads the next line. If nothing asks, that line is a
+        command that keeps the status."""
         folder = self.room.folder
         environment = {**os.environ, "PATH": f"{folder}/bin:{os.environ['PATH']}", "TMPDIR": f"{folder}/tmp"}
         pasted = "\n".join(["yes() { return $?; }", self.placed("\n".join(lines)), said])
@@ -118,14 +118,14 @@ class Machine:
         self.room.write("etc/onixdesk/inbox/north.conf", text.encode())
 
     def put(self, files: dict[str, bytes]) -> None:
-        """Has files come one after the other."""
+        """Puts files there, one after the other."""
         for place, (name, data) in enumerate(files.items(), 1):
             path = self.room.path("var/lib/onixdesk-incoming/north") / name
             path.write_bytes(data)
             os.utime(path, (place, place))
 
     def take(self, files: dict[str, bytes]) -> dict[str, str]:
-        """Has the inbox take files; in which state each is then that came so far."""
+        """Has the inbox take files; returns the state of each file so far."""
         self.put(files)
         self.run(["onixdesk-inbox -- north"])
         with closing(sqlite3.connect(self.room.path("var/lib/onixdesk-inbox/north/ledger.db"))) as ledger:
@@ -138,7 +138,7 @@ class Machine:
         return ran.output.decode().splitlines()
 
     def prices(self, kind: str = "02") -> dict[str, list[str]]:
-        """The amounts that are offered for each article of the tests."""
+        """The offered amounts of each article of the tests."""
         found: dict[str, list[str]] = {}
         for line in self.ask(*(f"AskPrice,{isbn},20250501,GB,GBP,{kind}" for isbn in ARTICLES)):
             word, *fields = line.split(",")
@@ -153,7 +153,7 @@ ARTICLES = {"9781234567897": "a", "9781234567880": "b", "9781234567873": "c"}
 
 
 def feed(number: int | None, sender: str = "4012345000009", **prices: str) -> bytes:
-    """A feed that says a retail price of each of these articles."""
+    """A feed with a retail price for each of these articles."""
     isbns = {name: isbn for isbn, name in ARTICLES.items()}
     lines = [
         '<ONIXMessage release="3.0"><Header><Sender><SenderIdentifier><SenderIDType>06</SenderIDType>',

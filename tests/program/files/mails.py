@@ -1,5 +1,5 @@
-"""What the mails say of the units, with a journal and a mail server that stand in, and the lines that `serve` is left
-in the journal."""
+"""The mails about the units, with stand-ins for the journal and the mail server, and the lines of `serve` that reach
+the journal."""
 
 import json
 import os
@@ -60,7 +60,7 @@ NOT_STARTED = "systemd[1]: Failed to start onixdesk-copy.service - Copies the de
 
 
 def bodies(room: Room) -> tuple[list[str], list[str]]:
-    """The errors of a mail, and all that was said."""
+    """The errors in a mail, and the whole journal in it."""
     lines = mailed(room)
     body = lines[lines.index("") + 1 :] if lines else ["", "All that was said:", ""]
     place = body.index("All that was said:")
@@ -68,7 +68,7 @@ def bodies(room: Room) -> tuple[list[str], list[str]]:
 
 
 def what_is_mailed(room: Room) -> Iterator[Outcome]:
-    """Errors and units that failed, with all that was said, up to a bound each; and nothing where all went well."""
+    """Errors and failed units, with the whole journal, up to a limit each; and nothing if all went well."""
     make_room(room)
     say(room, 5, DONE)
     yield Outcome("mails: all went well", (mail(room), mailed(room)), (Ran(0), []))
@@ -108,7 +108,7 @@ def from_mail_to_mail(room: Room) -> Iterator[Outcome]:
 
 
 def what_cannot_be_mailed(room: Room) -> Iterator[Outcome]:
-    """It is told, and mailed the next time."""
+    """It is reported, and mailed the next time."""
     make_room(room)
     say(room, 3, REFUSED)
     script(room, "bin/sendmail", "exit 75")
@@ -134,7 +134,7 @@ def what_cannot_be_mailed(room: Room) -> Iterator[Outcome]:
 
 
 def each_monday(room: Room) -> Iterator[Outcome]:
-    """How each inbox stands, once on that day, though nothing failed; again where it could not be sent."""
+    """The report of each inbox, once on that day, though nothing failed; again if it could not be sent."""
     make_room(room)
     room.path("settings").mkdir()
     for name in ("example", "north", "south"):
@@ -152,7 +152,7 @@ def each_monday(room: Room) -> Iterator[Outcome]:
 
 
 def lines_of_a_desk(room: Room) -> Iterator[Outcome]:
-    """Those of requests that went well are left out, and the script is the desk by then."""
+    """The lines of successful requests are left out, and by then the script is the desk."""
     said = ["listening 8080", "200", "202", "batch 0", "batch 2", "404", "fault", "503", "2000", "x 200"]
     room.write("said", "".join(f"{line}\n" for line in said).encode())
     program = script(
@@ -173,7 +173,7 @@ def lines_of_a_desk(room: Room) -> Iterator[Outcome]:
 
 
 def rules_for_the_page(room: Room) -> Iterator[Outcome]:
-    """A desk that starts has written the rules that it reads; where they cannot be read, no older ones are left."""
+    """A starting desk writes the rules that it reads; if they cannot be read, no older ones are left."""
     program = script(room, "program", "exit 0")
     room.write("rules.toml", b'\xef\xbb\xbf[[rule]]\nseries = "north"\ncodes = ["20", "21"]\nmax = "15.00"\n')
     environment = {"PATH": os.environ["PATH"], "RULES": str(room.path("rules.toml")), "STATE": str(room.folder)}

@@ -1,4 +1,5 @@
-"""Files whose sender and addressee are another series' of the desk, or nobody's, until the agreement is corrected."""
+"""Files whose sender and addressee belong to another series of the desk, or to none, until the agreement is corrected.
+"""
 
 from collections.abc import Iterator
 from contextlib import suppress
@@ -20,7 +21,7 @@ ADDRESSEE = "06", "5012345678900"
 
 
 def mistyped(room: Room) -> Iterator[Outcome]:
-    """What was refused for want of an agreement is taken once that is corrected, under the numbers that it has."""
+    """Files refused for want of an agreement are taken once that is corrected, under their numbers."""
     for number, parts in ("own", 1), (NEXT, 1), ("own", 2), (NEXT, 2):
         inbox = inbox_in(room, f"{number}{parts}", number=number, words=("--parts", str(parts)))
         inbox.series.parties = (*SENDER, *ADDRESSEE)
@@ -40,7 +41,7 @@ def mistyped(room: Room) -> Iterator[Outcome]:
         yield Outcome(f"{name}: the next one", found, ([*range(1, 2 * parts + 1)], "2.000", []))
 
 
-# What the report says of an agreement, desk.json or terms that are otherwise than these.
+# The report on an agreement, desk.json or terms that differ from the settings.
 ALIKE: dict[str, Any] = {"first": 1, "page": {"name": "north", "parts": 2}, "net": "02"}
 OTHERWISE: dict[str, dict[str, Any]] = {
     "": {},
@@ -66,7 +67,7 @@ def otherwise(room: Room) -> Iterator[Outcome]:
 
 
 def without_one(room: Room) -> Iterator[Outcome]:
-    """What is to be agreed has the addressee of the first file."""
+    """The agreement to be made has the addressee of the first file."""
     inbox = inbox_in(room, "new")
     inbox.desk = FakeDesk()
     yield Outcome("nothing waits", inbox.run(), [])
@@ -76,7 +77,7 @@ def without_one(room: Room) -> Iterator[Outcome]:
 
 
 def of_others(room: Room) -> Iterator[Outcome]:
-    """What waits for an agreement keeps its number, whatever comes meanwhile."""
+    """A file that waits for an agreement keeps its number, whatever comes meanwhile."""
     for number, wanted in ("own", ([1, 2], "2.000")), (NEXT, ([1, 2, 3], "3.000")):
         inbox = inbox_in(room, f"others {number}", number=number)
         for place in (1, 2):
@@ -95,7 +96,7 @@ def of_others(room: Room) -> Iterator[Outcome]:
 
 
 def older(room: Room) -> Iterator[Outcome]:
-    """What a desk took before, and this one does not take yet, has its place in the order."""
+    """What a desk took before, and this one does not take yet, keeps its place in the order."""
     inbox = inbox_in(room, "older", number=NEXT)
     inbox.take("1.xml", feed_of(None, {"R1": "1.00"}))
     inbox.begin_desk(ADDRESSEE)
@@ -104,7 +105,8 @@ def older(room: Room) -> Iterator[Outcome]:
 
 
 def compared(room: Room) -> Iterator[Outcome]:
-    """What came before its series was agreed, also twice, is compared with what came before it, once that is there."""
+    """What came before its series was agreed, even twice, is compared with what came before it, once the series is
+    agreed."""
     for number, again in product(("own", NEXT), range(4)):
         inbox = inbox_in(room, f"compared {number} {again}", number=number)
         inbox.series.parties = (*SENDER, *ADDRESSEE)
@@ -140,8 +142,8 @@ def numbered_anew(room: Room) -> Iterator[Outcome]:
 
 
 def given_up(room: Room) -> Iterator[Outcome]:
-    """A number below one that is waived, since a person refused its file, stays its file's, and is waived once a full file
-    replaces that."""
+    """A number below a waived one keeps its file if a person refused it, and is waived once a full file replaces that
+    file."""
     inbox = inbox_in(room, "given up", number=NEXT, full=1)
     inbox.series.parties = (*SENDER, *ADDRESSEE)
     for place, price in enumerate(("4.50", "1000.00", "5.00"), 1):
@@ -157,8 +159,8 @@ def given_up(room: Room) -> Iterator[Outcome]:
 
 
 def tried_again(room: Room) -> Iterator[Outcome]:
-    """What the desk took as it was tried again is final, also where the run dies then; and a number below a first one that was
-    wrong is tried again, too."""
+    """What the desk took when it was tried again is final, even if the run dies then; and a number below a wrong first
+    one is tried again, too."""
     inbox = inbox_in(room, "killed", number=NEXT)
     parties, other = inbox.series.parties, (*SENDER, *ADDRESSEE)
     inbox.series.parties = other

@@ -1,4 +1,4 @@
-"""What is in files: records and feeds, whole or not, packed or not, as the built program takes them."""
+"""The contents of files: records and feeds, whole or not, packed or not, as the built program takes them."""
 
 import gzip
 import io
@@ -25,7 +25,7 @@ def zipped(*names: str) -> bytes:
 
 
 def one_supplier(room: Room) -> Iterator[Outcome]:
-    """Of several suppliers the one that WORDS names counts alone."""
+    """Of several suppliers only the one in WORDS counts."""
     inbox = FakeInbox(room.folder, room.program, words=("--supplier", f"06,{SENDER[1]}"))
     form = "<SupplierIdentifier><SupplierIDType>06</SupplierIDType><IDValue>{}</IDValue></SupplierIdentifier>"
     own, other = (f"</SupplierRole>{form.format(value)}" for value in (SENDER[1], "4012345000010"))
@@ -36,7 +36,7 @@ def one_supplier(room: Room) -> Iterator[Outcome]:
     yield Outcome("none of its own", (len(inbox.run()), inbox.states()["others.xml"]), (1, "quarantined"))
 
 
-# Of a message of twelve products, behind a first one of as many: what is wrong in it, and its right form.
+# What is wrong in a message of twelve products, after a first one of as many, and its right form.
 MALFORMED = {
     "amount": ("13.99", '"13,99"'),
     "currency": ("GBP", "£"),

@@ -1,5 +1,5 @@
-"""What fetch.sh brings by rclone from servers on this machine: OpenSSH for SFTP, vsftpd for FTPS and FTP, Python's for
-HTTPS. Nothing may be lost, and one bad name is one file's affair."""
+"""What fetch.sh fetches by rclone from servers on this machine: OpenSSH for SFTP, vsftpd for FTPS and FTP, Python's for
+HTTPS. Nothing may be lost, and a bad name affects one file."""
 
 import contextlib
 import http.server
@@ -29,7 +29,7 @@ DAY = 24 * HOUR
 
 
 class Fetch:
-    """Runs of the script over folders of a room. `files` is the folder that the server offers."""
+    """Runs of the script over folders of a room; the server offers the folder `files`."""
 
     def __init__(self, room: Room, **settings: str) -> None:
         self.room = room
@@ -61,14 +61,14 @@ class Fetch:
         return self.room.call([SCRIPT, "north", self.incoming], environment=self.environment)
 
     def errors(self) -> list[str]:
-        """The lines of priority error of a run, which are mailed."""
+        """The lines of priority error in a run, which are mailed."""
         return [line for line in self.run().errors.decode().splitlines() if line.startswith("<3>")]
 
     def came(self) -> dict[bytes, str]:
         return {os.fsencode(path.name): path.read_text() for path in sorted(self.incoming.iterdir())}
 
     def take(self) -> None:
-        """As an inbox takes what came."""
+        """As an inbox takes the files."""
         for path in self.incoming.iterdir():
             path.unlink()
 
@@ -98,7 +98,7 @@ def key(room: Room, name: str) -> str:
 
 @contextlib.contextmanager
 def sftp(fetch: Fetch) -> Iterator[dict[str, object]]:
-    """OpenSSH; gives rclone's settings for it but for the known hosts."""
+    """OpenSSH; returns rclone's settings for it, without the known hosts."""
     room, port = fetch.room, free_port()
     room.write("authorized", key(room, "client").encode())
     host = key(room, "host")
@@ -122,7 +122,7 @@ def certificate(room: Room) -> Path:
 
 @contextlib.contextmanager
 def ftp(fetch: Fetch) -> Iterator[dict[str, object]]:
-    """vsftpd, with TLS for whom asks for it."""
+    """vsftpd, with TLS for those who ask for it."""
     room, port = fetch.room, free_port()
     certificate(room)
     words = {
@@ -140,7 +140,7 @@ def ftp(fetch: Fetch) -> Iterator[dict[str, object]]:
 
 
 class Pages(http.server.SimpleHTTPRequestHandler):
-    """A server whose files have no times, and which waits or lies where it is told so."""
+    """A server whose files have no times, and which waits or lies when it is told to."""
 
     waits = 0.0
     lies: tuple[str, ...] = ()
@@ -181,7 +181,7 @@ def https(fetch: Fetch, waits: float = 0, lies: tuple[str, ...] = ()) -> Iterato
 
 
 def sftp_is_copied(room: Room) -> Iterator[Outcome]:
-    """Only from a host that is known; a name in Latin-1, and one that changed; not what is not asked for."""
+    """Only from a known host; a name in Latin-1, and one that changed; not what is not asked for."""
     fetch = Fetch(room)
     with sftp(fetch) as settings:
         fetch.offer("a.xml", "one")
@@ -217,7 +217,7 @@ def sftp_is_moved(room: Room) -> Iterator[Outcome]:
         fetch.configure(**settings, known_hosts_file=room.path("known"))
         fetch.offer("feed.xml", "one", 90 * DAY)
         fetch.offer("grows.xml", "half", 5)
-        # Who uploads there may take the name under which files are written.
+        # An uploader may use the name under which files are written.
         (fetch.incoming / ".fetched.part").mkdir()
         yield Outcome("fetch: moved", (fetch.run(), fetch.came()), (Ran(0), {b"feed.xml": "one"}))
         left = {path.name for path in fetch.files.iterdir()}
@@ -231,7 +231,7 @@ def sftp_is_moved(room: Room) -> Iterator[Outcome]:
 
 
 def ftp_is_verified(room: Room) -> Iterator[Outcome]:
-    """FTPS by the certificate that is named; FTP alone where the settings say that nobody verifies it."""
+    """FTPS by the named certificate; FTP only if the settings allow an unverified server."""
     fetch = Fetch(room, FROM="north:")
     with ftp(fetch) as settings:
         for place, name in enumerate(["a.xml", "b.xml", "c.xml"]):
@@ -262,7 +262,7 @@ def ftp_is_verified(room: Room) -> Iterator[Outcome]:
 
 
 def https_without_times(room: Room) -> Iterator[Outcome]:
-    """Each run has all of it, since nobody knows what changed; a server that lies keeps nothing else back."""
+    """Each run fetches all of it, since nobody knows what changed; a server that lies keeps nothing else back."""
     fetch = Fetch(room)
     with https(fetch, lies=("/b.xml",)) as settings:
         fetch.configure(**settings)
@@ -285,7 +285,7 @@ def https_without_times(room: Room) -> Iterator[Outcome]:
 
 
 def killed_amid(room: Room) -> Iterator[Outcome]:
-    """A half file is nowhere where an inbox looks, and comes whole afterwards."""
+    """A partial file never appears where an inbox looks, and comes complete later."""
     fetch = Fetch(room)
     fetch.offer("a.xml", "whole" * 2000)
     with https(fetch, waits=2) as settings:
@@ -302,7 +302,7 @@ def killed_amid(room: Room) -> Iterator[Outcome]:
 
 
 class Login(http.server.BaseHTTPRequestHandler):
-    """A server that asks who is there, whatever it is asked for."""
+    """A server that asks for a login, whatever it is asked for."""
 
     def do_GET(self) -> None:
         self.send_response(200 if self.path == "/login" else 302)
@@ -315,7 +315,7 @@ class Login(http.server.BaseHTTPRequestHandler):
 
 
 def who_is_there(room: Room) -> Iterator[Outcome]:
-    """The script for an address with a date takes no page for a feed, and asks for that again."""
+    """The script for an address with a date does not take a page for a feed, and asks again."""
     (lines,) = (lines for lines in blocks("docs/INBOX.md") if lines[0] == "#!/bin/bash")
     folders = {f"/var/lib/onixdesk-{name}/north": room.path(name) for name in ("fetch", "incoming")}
     pages = http.server.ThreadingHTTPServer((HOST, 0), Login)

@@ -1,4 +1,4 @@
-"""What becomes of files: in which order they are judged, under which numbers, and what people read of them."""
+"""What becomes of files: the order in which they are judged, their numbers, and what people read about them."""
 
 import contextlib
 import os
@@ -50,7 +50,7 @@ def order(room: Room) -> Iterator[Outcome]:
 
 
 def order_without_ledger(room: Room) -> Iterator[Outcome]:
-    """A file that the store has keeps its time, also where its row is lost and it comes again."""
+    """A file in the store keeps its time, even if its row is lost and it comes again."""
     inbox = inbox_in(room, "lost")
     inbox.desk, desk = None, inbox.desk
     inbox.take("a.xml", feed_of(1, {"R1": "1.00"}))
@@ -63,7 +63,7 @@ def order_without_ledger(room: Room) -> Iterator[Outcome]:
 
 
 def order_of_one_number(room: Room) -> Iterator[Outcome]:
-    """Of files of one number the first has it once it is free, also where that comes again behind the others."""
+    """Of the files of one number the first gets it once it is free, even if that one comes again after the others."""
     inbox = inbox_in(room, "one")
     for amount in "1.00", "2.00", "3.00":
         inbox.take(f"{amount}.xml", feed_of(1, {"R1": amount}))
@@ -74,7 +74,7 @@ def order_of_one_number(room: Room) -> Iterator[Outcome]:
 
 
 def numbers(room: Room) -> Iterator[Outcome]:
-    """Which number a file gets where the inbox gives it."""
+    """Which number a file gets if the inbox gives it."""
     inbox = inbox_in(room, "others", number=NEXT, words=("--parts", "2"))
     inbox.series.had[1] = inbox.series.had[2] = inbox.series.had[3] = ()
     inbox.take("a.xml", feed_of(None, {"R1": "1.00"}))
@@ -101,7 +101,7 @@ def numbers(room: Room) -> Iterator[Outcome]:
 
 
 def texts(room: Room) -> Iterator[Outcome]:
-    """A number that comes again is converted as it was first."""
+    """A number that comes again is converted like its first file."""
     inbox = inbox_in(room, "terms")
     inbox.terms = b"50"
     inbox.take("a.xml", feed_of(1, {"R1": "1.00"}))
@@ -119,7 +119,7 @@ def texts(room: Room) -> Iterator[Outcome]:
 
 
 def gone(room: Room) -> Iterator[Outcome]:
-    """What is not kept any more, and what the desk has not agreed."""
+    """What is no longer kept, and what the desk has not agreed on."""
     inbox = inbox_in(room, "texts")
     inbox.take("a.xml", feed_of(1, {"R1": "1.00"}))
     inbox.clock += 121 * DAY
@@ -150,8 +150,7 @@ def gone(room: Room) -> Iterator[Outcome]:
 
 
 def gone_with_the_machine(room: Room) -> Iterator[Outcome]:
-    """A ledger on a new machine, which has none of its files: what was refused is not judged anew, and keeps nothing
-    waiting."""
+    """A ledger on a new machine, without its files: what was refused is not judged anew, and nothing waits for it."""
     inbox = inbox_in(room, "moved")
     for name, data in {
         "1.xml": feed_of(1, {"R1": "1.00"}),
@@ -178,7 +177,7 @@ def gone_with_the_machine(room: Room) -> Iterator[Outcome]:
 
 
 def renewed(room: Room) -> Iterator[Outcome]:
-    """A desk that begins later, and has all that stood before: nothing below is posted, and a repeat is known."""
+    """A desk that begins later, with all that came before: nothing below is posted, and a repeat is known."""
     inbox = inbox_in(room, "renewed")
     for number in (1, 2, 3):
         inbox.send(f"{number}.xml", feed_of(number, {"R1": f"{number}.00"}))
@@ -198,7 +197,7 @@ def renewed(room: Room) -> Iterator[Outcome]:
 
 
 def asked(room: Room) -> Iterator[Outcome]:
-    """What the ledger tells."""
+    """What the ledger shows."""
     inbox = inbox_in(room, "asked")
     inbox.send("a.xml", feed_of(1, {"R1": "1.00"}))
     inbox.take("b.xml", feed_of(2, {"R2": "1.00"}))
@@ -219,7 +218,7 @@ def asked(room: Room) -> Iterator[Outcome]:
 
 
 def begins_again(room: Room) -> Iterator[Outcome]:
-    """A newer file of number 1, whose contents are others, is refused with the setting by which it is taken."""
+    """A newer file of number 1, with other contents, is refused with the setting that accepts it."""
     inbox = inbox_in(room, "again")
     for number in (1, 2, 3):
         inbox.take(f"{number}.xml", feed_of(number, {"R1": f"{number}.00"}))
@@ -236,17 +235,17 @@ def begins_again(room: Room) -> Iterator[Outcome]:
 
 
 def said_of_products(room: Room) -> Iterator[Outcome]:
-    """What several suppliers offer, and an update of what the desk has not, is a warning."""
+    """Offers of several suppliers, and an update of a record that the desk lacks, are a warning."""
     inbox = inbox_in(room, "said")
     records = message_of(1, [product_of("R1", "1.00", None) + [["SupplyDetail", "04", "", "", "South", "21", ""]]])
     lines = inbox.take("two.csv", records)
     yield Outcome("several suppliers", lines[0].partition(":")[0], "2 suppliers")
     lines = inbox.take("gone.csv", message_of(2, [product_of("R2", "-", None)]))
-    yield Outcome("what is not there", lines[0].partition(":")[0], "1 change of what the desk has not")
+    yield Outcome("what is not there", lines[0].partition(":")[0], "1 change of records that the desk lacks")
 
 
 def returned(room: Room) -> Iterator[Outcome]:
-    """A number that the desk gave back is the next file's, over a restored desk too; the first one gets another."""
+    """The next file gets a number that the desk gave back, over a restored desk too; the first gets another one."""
     inbox = inbox_in(room, "returned", number=NEXT)
     assert inbox.desk
     with patch.object(inbox.desk, "deliver", lambda _: ["refused", "malformed", "1"]):
@@ -276,7 +275,7 @@ def returned(room: Room) -> Iterator[Outcome]:
 
 
 def refused(room: Room) -> Iterator[Outcome]:
-    """What a person refused is not posted again, also once that is there for which it waited."""
+    """What a person refused is not posted again, even once the missing number is there."""
     inbox = inbox_in(room, "refused")
     inbox.take("2.xml", feed_of(2, {"R1": "1.00"}))
     inbox.decide("refuse", "2.xml")
@@ -301,7 +300,7 @@ def refused(room: Room) -> Iterator[Outcome]:
 
 
 def halves(room: Room) -> Iterator[Outcome]:
-    """Where the desk has a half of a feed, another one of that number is taken if that half is the same."""
+    """If the desk has half of a feed, another one of that number is taken if that half is the same."""
     inbox = inbox_in(room, "halves", words=("--parts", "2"))
     assert inbox.desk
     deliver, refused = inbox.desk.deliver, ["refused", "malformed", "1"]
@@ -314,7 +313,7 @@ def halves(room: Room) -> Iterator[Outcome]:
 
 
 def waived(room: Room) -> Iterator[Outcome]:
-    """A number that was waived is waived again at a restored desk, before a file that came to it meanwhile."""
+    """A waived number is waived again at a restored desk, before a file that came to it meanwhile."""
     inbox = inbox_in(room, "waived")
     assert inbox.desk
     before, begun = inbox.desk.copy(), inbox.desk.copy()
@@ -339,7 +338,7 @@ def waived(room: Room) -> Iterator[Outcome]:
 
 
 def waived_half(room: Room) -> Iterator[Outcome]:
-    """A part of a feed that came to a waived number is posted again at a desk that has that waiver no more."""
+    """A part of a feed that came to a waived number is posted again at a desk that no longer has that waiver."""
     inbox = inbox_in(room, "waived half", words=("--parts", "2"))
     assert inbox.desk
     before = inbox.desk.copy()
@@ -355,8 +354,8 @@ def waived_half(room: Room) -> Iterator[Outcome]:
 
 
 def waived_before(room: Room) -> Iterator[Outcome]:
-    """A desk from before has a waiver again that was taken back: that is told, and what came since is posted as it was once
-    the desk lacks it."""
+    """An older desk has a waiver again that was taken back: that is reported, and what came since is posted unchanged
+    once the desk lacks it."""
     for number, state in (1, "applied"), (2, "held"):
         inbox = inbox_in(room, f"waived before {state}")
         assert inbox.desk
@@ -390,7 +389,7 @@ def endings(room: Room) -> Iterator[Outcome]:
 
 
 def left(room: Room) -> Iterator[Outcome]:
-    """Files that are left in their folder are taken once, also two of the same bytes; after 60 days they are removed."""
+    """Files that stay in their folder are taken once, even two with the same bytes; after 60 days they are removed."""
     inbox = inbox_in(room, "left", leave=True)
     for name in ("full.xml", "full-20261130.xml"):
         inbox.send(name, feed_of(1, {"R1": "1.00"}))
@@ -404,7 +403,7 @@ def left(room: Room) -> Iterator[Outcome]:
 
 
 def lacking(room: Room) -> Iterator[Outcome]:
-    """What the desk lacks and cannot have again waits, for whoever looks at the page."""
+    """What the desk lacks and cannot have again counts as waiting on the page."""
     inbox = inbox_in(room, "lacking")
     inbox.take("1.xml", feed_of(1, {"R1": "1.00"}))
     yield Outcome("it has all", inbox.shown()["waiting"], 0)
@@ -415,7 +414,7 @@ def lacking(room: Room) -> Iterator[Outcome]:
 
 
 def unforeseen(room: Room) -> Iterator[Outcome]:
-    """What nobody foresaw of a file stops the series with a line, never passes, and is tried again once a person says so."""
+    """An unexpected failure on a file stops the series with a line, never passes, and a person has it tried again."""
     for name, target, error in (
         ("mistake", "onixdesk_shop.inbox.quarantine.look_at", ValueError("no digit")),
         ("child", "onixdesk_shop.inbox.quarantine.look_at", BadEnd("onixdesk was killed by signal 9")),

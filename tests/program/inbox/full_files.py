@@ -1,4 +1,4 @@
-"""What full files do not name any more."""
+"""What full files no longer name."""
 
 from collections.abc import Iterator
 from contextlib import suppress
@@ -93,7 +93,7 @@ def of_a_resend(room: Room) -> Iterator[Outcome]:
 
 
 def a_load_in_files(room: Room) -> Iterator[Outcome]:
-    """A file of a load does not take the place of another one of it that waits for a person."""
+    """A file of a load does not replace another one of it that waits for a person."""
     inbox = inbox_in(room, "load", full=5)
     for price in ("1.00", "3.00"):
         for part in "abc":

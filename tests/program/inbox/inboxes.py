@@ -20,19 +20,19 @@ CONNECTIONS = 1_000_000
 
 
 def of_series(number: int, series: str = "north", **counts: int) -> str:
-    """The reply to a message that was applied."""
+    """The reply to an applied message."""
     names = ["deleted", "ignored"], ["replaced"], ["unknown", "updated"]
     before, replaced, behind = (",".join(f'"{name}":{counts.get(name, 0)}' for name in each) for each in names)
     return f'200 {{"answer":"applied",{before},"number":{number},{replaced},"series":"{series}",{behind}}}'
 
 
 def within(text: str, *words: Word) -> list[Word]:
-    """The words by which a text of Python runs, which may import what ships and run a program of it."""
+    """The words that run a text of Python, which may import what ships and run a program of it."""
     return [*WITHIN, text, *words]
 
 
 def script(room: Room, name: str, text: str) -> Path:
-    """A program of the shell that stands in for another one."""
+    """A shell program that stands in for another one."""
     room.write(name, f"#!/bin/sh\n{text}\n".encode())
     room.path(name).chmod(0o755)
     return room.path(name)

@@ -1,4 +1,4 @@
-"""A run that is ended at each of its calls: the next one has what it would have had."""
+"""A run that ends at each of its calls: the next one has what it would have had."""
 
 import os
 from collections.abc import Iterator
@@ -13,7 +13,7 @@ from tests.shop.fake_machine import FakeMachine, Killed
 from tests.shop.fake_program import feed_of
 from tests.shop.inboxes import FakeInbox
 
-# Of the calls of a run each so many'th is tried; ONIXDESK_STRIDE=1 tries all.
+# Every so many'th call of a run is tried; ONIXDESK_STRIDE=1 tries all.
 STRIDE = int(os.environ.get("ONIXDESK_STRIDE", "4"))
 
 FILES = {"b.xml": feed_of(None, {"R1": "1.00"}), "a.xml": feed_of(None, {"R1": "2.00"}), "c.xml": b"<cut"}
@@ -21,7 +21,7 @@ STATES = {"b.xml": "applied", "a.xml": "applied", "c.xml": "refused"}
 
 
 def wrong_with(inbox: FakeInbox) -> str:
-    """What two runs that nothing ends do not make of what was left."""
+    """What two undisturbed runs do not make of what was left."""
     for _ in range(2):
         inbox.run()
     states = {inbox.stored(file): file.state for file in inbox.files()}
@@ -51,7 +51,7 @@ def interrupted(kind: str, room: Room) -> Iterator[Outcome]:
 
 
 def written_to(room: Room) -> Iterator[Outcome]:
-    """A file that somebody writes to, amid a run, is taken whole, whatever was copied of it before."""
+    """A file that somebody writes to amid a run is taken whole, whatever was copied of it before."""
     for step, wanted in ("copied", []), ("rename", ["refused"]):
         inbox = inbox_in(room, step, number=NEXT)
         inbox.send("b.xml", FILES["b.xml"][:-9])
@@ -59,7 +59,7 @@ def written_to(room: Room) -> Iterator[Outcome]:
         machine.meanwhile = partial(inbox.send, "b.xml", FILES["b.xml"], inbox.clock - 1)
         inbox.run(machine)
         yield Outcome(f"before it is {step}", [*inbox.states().values()], wanted)
-        # The bytes that it had come again before what took their place is taken.
+        # Its old bytes come again before what replaced them is taken.
         inbox.take("a.xml", FILES["b.xml"][:-9])
         inbox.run()
         found = sorted(inbox.states().values()), os.listdir(inbox.incoming)

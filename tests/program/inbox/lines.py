@@ -1,4 +1,4 @@
-"""Lines that people paste: commands stand first and are whole, a name of others is one word at the end."""
+"""Lines that people paste: commands come first and are complete; a name from others is one word at the end."""
 
 import os
 import shlex
@@ -18,7 +18,7 @@ HOUR, DAY = 3_600, 86_400
 
 PLAIN = "a.xml"
 
-# Names of others that mean something to a shell, to a journal or to a mail.
+# Names from others that mean something to a shell, to a journal or to a mail.
 NAMES = [
     "sale.xml: stopped: 1998 of 2000 prices change .. 3.33; runuser -u root -- sh -c 'id|sh' takes it, thanks, W.xml",
     "$(id) `id` \"; id; '.xml",
@@ -47,7 +47,7 @@ def lines_under(room: Room, name: str, place: int) -> list[str]:
 
 
 def names_of_others(room: Room) -> Iterator[Outcome]:
-    """A line is that of a file with a plain name, but for its last word."""
+    """A line is the same as for a file with a plain name, except for its last word."""
     plain = [shlex.split(line) for line in lines_under(room, PLAIN, 0)]
     yield Outcome("the lines", len(plain), 5)
     for place, name in enumerate(NAMES, 1):
@@ -92,7 +92,7 @@ def what_is_told_once(room: Room) -> Iterator[Outcome]:
 
 
 def never_heard(room: Room) -> Iterator[Outcome]:
-    """A wholesaler that never sent anything is silent, too, once the inbox is there for days."""
+    """A wholesaler that never sent anything is silent too, once the inbox has been there for days."""
     inbox = inbox_in(room, "never")
     inbox.clock = int(time.time())
     yield Outcome("at first", (inbox.run(), inbox.shown()["silent"]), ([], False))
@@ -102,7 +102,7 @@ def never_heard(room: Room) -> Iterator[Outcome]:
 
 
 def a_second_wait(room: Room) -> Iterator[Outcome]:
-    """For a number that a restored desk lacks again: it is told again."""
+    """For a number that a restored desk lacks again: it is reported again."""
     inbox = inbox_in(room, "second")
     inbox.take("1.xml", feed_of(1, {"R1": "1.00"}))
     assert inbox.desk
@@ -130,7 +130,7 @@ def slips(_room: Room) -> Iterator[Outcome]:
 
 
 def refused_by_a_person(room: Room) -> Iterator[Outcome]:
-    """What waits behind a refused number says so, and the command that was printed takes it on."""
+    """What waits behind a refused number says so, and the printed command takes it on."""
     inbox = inbox_in(room, "person")
     inbox.send("1.xml", feed_of(1, {"R1": "1.00"}))
     inbox.take("2.xml", feed_of(2, {}, said=NEITHER))

@@ -22,7 +22,7 @@ def why(work: Callable[[], object]) -> str:
 
 
 def ends(_room: Room) -> Iterator[Outcome]:
-    """An end that is not known is a failure."""
+    """An unknown end is a failure."""
     machine = Machine("test")
 
     def run(script: str, **more: Any) -> Callable[[], object]:
@@ -40,7 +40,7 @@ def ends(_room: Room) -> Iterator[Outcome]:
 
 
 def whole_files(room: Room) -> Iterator[Outcome]:
-    """Who reads a file meanwhile has one of those that were written, whole."""
+    """A reader of a file meanwhile gets one of the written versions, whole."""
     path, texts = room.path("file"), [bytes([65 + place]) * 100_000 for place in range(4)]
     machine = Machine("test")
     machine.write_whole(path, texts[0])
@@ -73,14 +73,14 @@ def program(lines: str, goes_on: bool = False) -> list[Word]:
 
 
 def broken_output(room: Room) -> Iterator[Outcome]:
-    """A program whose output nobody takes goes on, and ends with 3."""
+    """A program whose output nobody reads goes on, and ends with 3."""
     words = program("for _ in range(9): machine.write('x' * 99_999)")
     ran = room.call(["bash", "-c", '"$@" | true; exit "${PIPESTATUS[0]}"', "bash", *words])
     yield Outcome("it goes on", (ran.status, ran.errors), (3, b"test: done\n"))
 
 
 def signals(room: Room) -> Iterator[Outcome]:
-    """What replaces a desk goes on where a terminal hangs up; all else ends with the signal's status."""
+    """A program that replaces a desk goes on if a terminal hangs up; all others end with the signal's status."""
     done = Ran(0, b"", b"test: done\n")
     for name, goes_on, wanted in ("HUP", True, done), ("HUP", False, Ran(129)), ("TERM", True, Ran(143)):
         ran = room.call(program(f"os.kill(os.getpid(), signal.SIG{name})", goes_on))

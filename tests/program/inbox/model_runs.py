@@ -1,5 +1,5 @@
-"""The inbox as a state machine (tests/shop/model.py), some runs of it; ONIXDESK_MODEL_SECONDS says for how long it is tried
-besides, each time with other seeds. What fails is written whole to standard error."""
+"""The inbox as a state machine (tests/shop/model.py), some runs of it; ONIXDESK_MODEL_SECONDS adds so many seconds of
+runs, with other seeds each time. Failures are written to standard error as they are."""
 
 import os
 import sys
@@ -17,7 +17,7 @@ EXAMPLES, STEPS = 60, 25
 
 
 def model(room: Room) -> Iterator[Outcome]:
-    # Here, since Hypothesis need not be there.
+    # Here, since Hypothesis may be missing.
     from tests.shop.model import case
 
     yield Outcome("the same runs each time", failures(case(EXAMPLES, STEPS, room.folder, is_same=True)), [])

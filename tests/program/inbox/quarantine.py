@@ -1,4 +1,4 @@
-"""Which feeds are in quarantine, by the answers of the built program."""
+"""Which feeds are quarantined, by the answers of the built program."""
 
 from collections.abc import Iterator
 from dataclasses import replace
@@ -25,7 +25,7 @@ def some_with(count: int, **changes: Any) -> Feed:
     return [*all_with(**changes)[:count], *BOOKS[count:]]
 
 
-# Behind a feed of forty books at 10.00 in GBP for GB.
+# After a feed of forty books at 10.00 in GBP for GB.
 QUARANTINED: dict[str, Feed] = {
     "a hundredfold": all_with(price="1000.00"),
     "in pence, eleven of forty": some_with(11, price="1000.00"),
@@ -73,7 +73,7 @@ def feeds_that_look_wrong(room: Room) -> Iterator[Outcome]:
 
 
 def for_whom_the_last_feed_was(room: Room) -> Iterator[Outcome]:
-    """That is asked for where no settings of the shop say it, and where these are for others."""
+    """That is asked for if no settings of the shop name it, and if they are for others."""
     others = replace(SHOP, country="DE", currency="EUR")
     for case, shop in ("without desk.json", None), ("desk.json is for others", others):
         for name in ("in another currency", "for another market", "all deleted"):

@@ -1,1 +1,1 @@
-"""Tests of what is shipped, and of what checks the repository."""
+"""Tests of the package, and of the checks of the repository."""

@@ -1,4 +1,4 @@
-"""What `bin/onixdesk` and `tools/build` do in a repository of two crates, with a toolchain that stands in for `rt`."""
+"""What `bin/onixdesk` and `tools/build` do in a repository of two crates, with a stand-in for `rt`."""
 
 import os
 import shutil
@@ -22,7 +22,7 @@ FILES = {
     "crates/desk_example/stdin": "",
 }
 
-# What is proved: the program's crates, without their wrong bodies.
+# What is proved: the program's crates, without their mutants.
 PROVED = ["HANDLES", "crates.txt", "crates/low/src/lib.rt", SOURCE]
 
 # What `rt try` says of a program that has ended: the program's line, and two of its own.
@@ -67,7 +67,7 @@ def lay_out(room: Room) -> None:
 
 
 def command(room: Room, *words: str, given: bytes = b"") -> Ran:
-    """The toolchain is on the PATH, and temporary files stand in the room."""
+    """The toolchain is on the PATH, and temporary files are in the room."""
     path = f"{room.path('tools')}{os.pathsep}{os.environ['PATH']}"
     environment = {**os.environ, "ROOM": str(room.folder), "PATH": path, "TMPDIR": str(room.path("tmp"))}
     return room.call([room.path(words[0]), *words[1:]], given, environment=environment)
@@ -78,7 +78,7 @@ def launch(room: Room, *words: str, given: bytes = BATCH) -> Ran:
 
 
 def without_a_program(room: Room) -> Iterator[Outcome]:
-    """A batch is answered: standard output has the answers alone, and the status is that of the batch."""
+    """A batch is answered: standard output has only the answers, and the status is the batch's."""
     lay_out(room)
     for status in (0, 1, 2, 3):
         room.path("status").write_text(f"{status}\n")
@@ -86,7 +86,7 @@ def without_a_program(room: Room) -> Iterator[Outcome]:
     for words in ("gaps north", "--db shop.db batch", "--help", "serve --port 8080"):
         yield Outcome(f"launcher: unbuilt, {words}", launch(room, *words.split()), wanting(UNBUILT))
     yield Outcome("launcher: unbuilt, --version", launch(room, "--version"), Ran(0, b"onixdesk 9.8.7\n"))
-    # The program refuses what has a byte more than a batch may have.
+    # The program refuses one byte more than a batch may have.
     room.path("status").write_text("0")
     came = launch(room, "batch", given=b"\n" * (MOST_BYTES + 9))
     wanted = answered(UNBUILT, given=b"\n" * (MOST_BYTES + 1))
@@ -99,7 +99,7 @@ def without_a_program(room: Room) -> Iterator[Outcome]:
 
 
 def a_built_program(room: Room) -> Iterator[Outcome]:
-    """It is run, on the words and the input that it is given, until a source changes."""
+    """It runs, on the words and the input that it gets, until a source changes."""
     lay_out(room)
     came = command(room, "tools/build")
     yield Outcome("tools/build: it builds", (came.status, came.output), (0, b""))

@@ -1,5 +1,5 @@
-"""What the package's scripts do at a removal: each is run on a root of its own, where a stand-in of what stops units
-writes down what it is told."""
+"""What the package's scripts do when it is removed: each runs on a root of its own, where a stand-in for what stops
+units writes down its calls."""
 
 import os
 from collections.abc import Iterator
@@ -11,10 +11,10 @@ from tests.program.room import Ran, Room
 from tests.running import Outcome
 from tools.root import ROOT
 
-# Units are the machine's.
+# Units belong to the machine.
 TOLD = ["deb-systemd-invoke"]
 
-# What a desk, its copies and an inbox keep that has taken a file; and what is made anew from it, or of use no more.
+# What a desk, its copies and an inbox with a file keep; and what is made again from that, or no longer of use.
 DATA = [
     "onixdesk/shop.db",
     "onixdesk/shop.db-wal",
@@ -40,7 +40,7 @@ def unit_files() -> list[Path]:
 
 
 def at(room: Room, name: str, *words: str) -> Ran:
-    """How that script ends; what the stand-ins were told stands in the file `told`."""
+    """How that script ends; the file `told` has the calls of stand-ins."""
     text = (ROOT / f"packaging/debian/onixdesk.{name}").read_text(encoding="utf-8").replace("#DEBHELPER#", "")
     for place in ("/etc/", "/run/", "/var/"):
         text = text.replace(place, f"{room.folder}{place}")
@@ -64,13 +64,13 @@ def make(room: Room, *names: str) -> None:
 
 
 def found(room: Room) -> list[str]:
-    """All files below /var and /etc, and the folders that have none."""
+    """All files below /var and /etc, and the empty folders."""
     paths = [path for place in ("var", "etc") for path in room.path(place).rglob("*")]
     return sorted(str(path.relative_to(room.folder)) for path in paths if not path.is_dir() or not any(path.iterdir()))
 
 
 def a_removal(room: Room) -> Iterator[Outcome]:
-    """Each unit of the package is stopped, those before the desk that send to it; an upgrade stops none here."""
+    """Each unit of the package is stopped, those that send to the desk before it; an upgrade stops none here."""
     for folder in ("bin", "run/systemd/system"):
         room.path(folder).mkdir(parents=True)
     came = at(room, "prerm", "remove")
@@ -85,7 +85,7 @@ def a_removal(room: Room) -> Iterator[Outcome]:
 
 
 def shop(room: Room, data: list[str]) -> None:
-    """A shop's files, with units enabled: those of the package, which are gone by then, and one of its own."""
+    """A shop's files, with enabled units: those of the package, which are gone by then, and one of its own."""
     room.path("bin").mkdir()
     make(room, *(f"var/lib/{name}" for name in [*data, *MADE]), OWN_UNIT)
     wants = room.path("etc/systemd/system/timers.target.wants")
@@ -96,7 +96,7 @@ def shop(room: Room, data: list[str]) -> None:
 
 
 def a_purge(room: Room) -> Iterator[Outcome]:
-    """The shop's data stay; what is made of them goes, and so do the links of the package's units."""
+    """The shop's data stay; what is made from them goes, and so do the links of the package's units."""
     shop(room, DATA)
     make(room, "etc/onixdesk/inbox/north.conf")
     room.path("var/lib/onixdesk-incoming/north").mkdir(parents=True)

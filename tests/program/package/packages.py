@@ -1,4 +1,4 @@
-"""What ships of Python imports the standard library and its own package."""
+"""Shipped Python imports only the standard library and its own package."""
 
 import ast
 import sys
@@ -11,7 +11,7 @@ from tools.root import PACKAGES, ROOT
 
 
 def imported(tree: ast.AST) -> set[str]:
-    """The packages that a module imports, wherever in it."""
+    """The packages that a module imports, anywhere in it."""
     found: set[str] = set()
     for node in ast.walk(tree):
         if isinstance(node, ast.Import):

@@ -18,10 +18,10 @@ Copies a running desk: the database FILE and its log FILE-wal, both as of one mo
 FOLDER. It has all that the desk had answered when the copy began. SQLite checks the copy, and FOLDER appears only once
 it is complete, sound and on the disk. With --inboxes it has the ledgers of the inboxes too."""
 
-# LimitDATA of the desk's unit.
+# The LimitDATA of the desk's unit.
 LIMIT = 1800 << 20
 
-# What a start takes at most: some memory of its own, and so much for each byte of its files (docs/SCALE.md).
+# A start needs at most some memory of its own, and so much for each byte of its files (docs/SCALE.md).
 OF_ITS_OWN, FOR_A_BYTE = 16_000_000, 1.1
 
 
@@ -36,14 +36,14 @@ def command_line() -> argparse.ArgumentParser:
 
 
 def copy_ledgers(machine: Machine, inboxes: Path, target: Path) -> None:
-    """Copies each inbox's ledger, behind the desk: so they have the text of each message that the copy has."""
+    """Copies each inbox's ledger after the desk: so the ledgers have the text of each message in the copy."""
     machine.make_folder(target)
     for ledger in machine.paths(inboxes, f"*/{LEDGER}"):
         machine.backup(ledger, target / f"{ledger.parent.name}.db")
 
 
 def work(machine: Machine, options: argparse.Namespace) -> int:
-    """Makes a copy under a hidden name, which a run that is killed leaves to the next one."""
+    """Makes a copy under a hidden name. If a run is killed, the next one removes it."""
     folder = options.folder.absolute()
     parent = folder if options.keep else folder.parent
     with machine.lock(parent, waits=False) as is_alone:
@@ -62,7 +62,7 @@ def work(machine: Machine, options: argparse.Namespace) -> int:
 
 
 def copy_by(machine: Machine, new: Path, folder: Path, options: argparse.Namespace) -> tuple[Path, Copied]:
-    """A copy that is checked, and on the disk, before it has its place."""
+    """Makes a copy that is checked and on the disk before it gets its name."""
     machine.remove_tree(new)
     machine.make_folder(new)
     found = copy_desk(machine, options.file, new)
@@ -84,7 +84,7 @@ def copy_by(machine: Machine, new: Path, folder: Path, options: argparse.Namespa
 
 
 def tell_room(machine: Machine, file: Path, found: Copied) -> None:
-    """Tells that the next start may take more than half of the memory that it may have."""
+    """Warns if the next start may need more than half of its memory limit."""
     needed = OF_ITS_OWN + int(FOR_A_BYTE * (found.database + found.log))
     if needed > LIMIT // 2:
         megabytes = f"{needed // 1_000_000} MB of memory, of {LIMIT // 1_000_000} MB"

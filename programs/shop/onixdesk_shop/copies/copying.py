@@ -1,8 +1,7 @@
-"""The database and the log of a desk, copied as they were at one moment, whatever the desk does meanwhile.
+"""Copies the database and the log of a desk as of one moment, while the desk goes on.
 
-A write sets a file's times before it changes the file, by a clock of the system that steps some milliseconds at a
-time. So a file that was last changed a good while before it is looked at, and that looks the same afterwards, was not
-written in between.
+A write sets a file's times before it changes the file, by a clock that steps some milliseconds at a time. So if a file
+was last changed a good while before we look at it, and looks the same afterwards, nobody wrote to it in between.
 """
 
 from collections.abc import Iterator
@@ -14,18 +13,18 @@ from onixdesk_shop.desk_files import log_of
 from onixdesk_shop.faults import Fault
 from onixdesk_shop.machine import Entry, Machine
 
-# Longer than each step of that clock, which are 10 ms at most; in nanoseconds.
+# Longer than any step of that clock, which is at most 10 ms; in nanoseconds.
 REST = 100_000_000
 
-# How long a moment is waited for in which the desk writes nothing, in seconds.
+# How long to wait for a moment in which the desk writes nothing, in seconds.
 PATIENCE = 600
 
-# The head of a log, which is another one as soon as the log has been copied into the database.
+# The head of the log. It changes as soon as the log was copied into the database.
 HEAD = 32
 
 
 class Copied(NamedTuple):
-    """A copy: the time at which both files were so, in nanoseconds since 1970, and how many bytes they have."""
+    """A copy: the moment of both files, in nanoseconds since 1970, and their size in bytes."""
 
     moment: int
     database: int
@@ -33,7 +32,7 @@ class Copied(NamedTuple):
 
 
 class Rest:
-    """Waits for moments in which files are not written, so many seconds in all."""
+    """Waits for moments without writes, for so many seconds in all."""
 
     def __init__(self, machine: Machine, seconds: float) -> None:
         self.machine = machine
@@ -41,18 +40,18 @@ class Rest:
 
     def spend(self, file: Path, seconds: float) -> None:
         if self.machine.now() + seconds > self.end:
-            raise Fault(f"{file}: it is not left as it is for long enough, or the clock was set back")
+            raise Fault(f"{file}: it changes too often to be copied, or the clock was set back")
         self.machine.sleep(seconds)
 
     def standing(self, file: Path) -> Entry | None:
-        """How the file stands now; nothing where there is none."""
+        """Size and times of the file, or None if it does not exist."""
         try:
             return self.machine.entry(file)
         except FileNotFoundError:
             return None
 
     def at_rest(self, file: Path) -> Entry | None:
-        """How the file stands, once no write that is still to come can leave it standing so."""
+        """The same, once no write that is under way can leave them as they are."""
         while True:
             began = int(self.machine.now() * 1e9)
             found = self.standing(file)
@@ -67,8 +66,8 @@ def head_of(machine: Machine, log: Path) -> bytes:
 
 
 def copy_log(rest: Rest, database: Path, found: Entry, head: bytes, folder: Path) -> Copied | None:
-    """Copies the log beside a database that is copied and stood so before, while the log had this head; nothing where
-    the database does not stand so any more, or the log began anew."""
+    """Copies the log beside a database that was copied in this state, while the log has this head; returns None if the
+    database changed or the log began anew."""
     machine, log = rest.machine, log_of(database)
     while True:
         log_found = rest.at_rest(log)
@@ -89,9 +88,9 @@ def copy_log(rest: Rest, database: Path, found: Entry, head: bytes, folder: Path
 def copy_desk(machine: Machine, database: Path, folder: Path, seconds: float = PATIENCE) -> Copied:
     """Copies both files of a desk into the folder, under their names, within that time.
 
-    The database was not written from before it was copied to the end, and the log not from before it was copied to
-    the end: so both files were what was copied when the copy of the log began. The log did not begin anew either, so
-    it has each page that a write of the database, held up since before, may still have been about to change.
+    Nobody wrote to the database from before its copy to the end, nor to the log from before its copy to the end: so
+    both files had these bytes when the copy of the log began. Nor did the log begin anew: so it has each page that a
+    delayed write to the database may still have been about to change.
     """
     rest = Rest(machine, seconds)
     while True:
@@ -105,12 +104,12 @@ def copy_desk(machine: Machine, database: Path, folder: Path, seconds: float = P
         rest.spend(database, 0)
 
 
-# Where copies lie for a while that are as large as the desk.
+# Where temporary copies go, which are as large as the desk.
 ROOM = Path("/var/tmp")
 
 
 @contextmanager
 def copied(machine: Machine, database: Path) -> Iterator[tuple[Path, Copied]]:
-    """A copy of a desk that is removed at the end."""
+    """A temporary copy of a desk."""
     with machine.scratch(ROOM) as folder:
         yield folder / database.name, copy_desk(machine, database, folder)

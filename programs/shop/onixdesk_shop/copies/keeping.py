@@ -1,4 +1,4 @@
-"""Copies that are kept side by side, each in a folder named by its second."""
+"""Keeps copies side by side, each in a folder named by its second."""
 
 import re
 import time
@@ -10,11 +10,11 @@ UNFINISHED = ".desk-copy"
 
 NAME = "%Y-%m-%dT%H-%M-%SZ"
 
-# So many letters of it are the day.
+# The length of the day in such a name.
 DAY = 10
 
-# Beside a desk, and in each of its copies: a line for each correction, behind the name of the last copy that is right
-# without it, if there is one.
+# Lies beside a desk, and in each of its copies: a line for each correction, after the name of the last copy that is
+# right without it, if there is one.
 CORRECTIONS = "corrections"
 
 is_name = re.compile(r"\d{4}-\d\d-\d\dT\d\d-\d\d-\d\dZ").fullmatch
@@ -30,16 +30,16 @@ def corrections_in(machine: Machine, folder: Path) -> list[str]:
 
 
 def corrections_since(machine: Machine, desk: Path, copy: Path) -> list[str]:
-    """Those from before which a copy is, whatever it is named by now and wherever it lay."""
+    """The corrections made after a copy, whatever its name is now and wherever it lay."""
     lacking = [line for line in corrections_in(machine, desk) if line not in corrections_in(machine, copy)]
     return [line for line in lacking if not is_name(copy.name) or copy.name > line.partition(" ")[0]]
 
 
 def keep_latest(machine: Machine, folder: Path, count: int, newest: Path) -> None:
-    """Removes all but the latest copies. The newest stays, also where a clock that was ahead has given others later
-    names. One that is being removed has a hidden name: a run that is killed would leave a part of it."""
+    """Removes all but the latest copies. The newest stays, even if a clock that was ahead gave others later names. A
+    copy gets a hidden name before it is removed, since a killed run would leave a part of it."""
     others = [path for path in machine.paths(folder, "*") if is_name(path.name) and path != newest]
-    # Corrections make several in a day. All but the last of a day go first, so that those of the nights before stay.
+    # Corrections make several copies a day. All but the last of a day go first, so that earlier nights stay.
     doubled = [old for old, later in zip(others, [*others[1:], newest]) if old.name[:DAY] == later.name[:DAY]]
     others = [*doubled, *(copy for copy in others if copy not in doubled)]
     for old in others[: max(0, len(others) + 1 - count)]:

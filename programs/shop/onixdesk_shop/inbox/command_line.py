@@ -58,7 +58,7 @@ def numbers_word(word: str) -> range:
 
 
 def command_line() -> argparse.ArgumentParser:
-    """A series may have the name of a command; alone it is a series."""
+    """A series may be named like a command: a lone word is a series."""
     name = sys.argv[1] if len(sys.argv) > 2 and sys.argv[1] in ("waive", "show", "report") else ""
     parser = parser_of("onixdesk-inbox", DESCRIPTION, **PATHS)
     parser.set_defaults(command=name)
@@ -81,7 +81,7 @@ def command_line() -> argparse.ArgumentParser:
 
 
 def become_owner(folder: Path) -> None:
-    """A program that root started goes on as the user whose inboxes these are."""
+    """If root started the program, it goes on as the user who owns the inboxes."""
     owner = os.stat(folder).st_uid
     if os.geteuid() or not owner:
         return
@@ -92,7 +92,7 @@ def become_owner(folder: Path) -> None:
 
 
 def read_all(machine: Machine, options: argparse.Namespace) -> tuple[Settings, bytes | None, Shop | None]:
-    """The settings, the terms of today, and the shop that desk.json has, if it is there."""
+    """The settings, today's terms, and the shop in desk.json, if that exists."""
     settings = read_settings(machine, options.settings / f"{options.series}.conf")
     shop = read_shop(machine, options.page) if machine.exists(options.page) else None
     try:
@@ -104,7 +104,7 @@ def read_all(machine: Machine, options: argparse.Namespace) -> tuple[Settings, b
 
 @contextlib.contextmanager
 def opened(machine: Machine, options: argparse.Namespace) -> Iterator[Inbox]:
-    """The inbox of the series; nobody else is at work on it meanwhile."""
+    """Opens the inbox of the series, and locks it."""
     program = program_of(options.program)
     places = Places(program, options.incoming, options.inboxes, options.state, options.rules)
     settings, terms, shop = read_all(machine, options)

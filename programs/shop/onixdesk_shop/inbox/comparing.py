@@ -1,5 +1,5 @@
-"""What a file would change of what the desk says, by the answers of both: the desk that is open, and one that has nothing
-but the file's records. Nothing here reckons a price."""
+"""What a file would change in the desk's answers: asks the open desk, and one that has nothing but the file's records.
+It computes no price."""
 
 from __future__ import annotations
 
@@ -20,22 +20,22 @@ from onixdesk_shop.messages import Product, Records, products_of, records_of, te
 if TYPE_CHECKING:
     from onixdesk_shop.inbox.judging import Feed
 
-# How many references are asked for, and how many of those that the desk has are looked at; how many questions are asked of
+# How many references it asks for, and how many of those that the desk has it compares; how many questions it asks about
 # all of them together, and how many at once, since others wait meanwhile.
 MOST_ASKED, MOST_LOOKED_AT, MOST_QUESTIONS, AT_ONCE = 4_000, 1_000, 12_000, 200
 
 DAYS = 90
 
-# How long the other desk may take, and what its one message may have.
+# How long the other desk may take, and how large its one message may be.
 SECONDS = 60
 MOST_BYTES, MOST_RECORDS = 3 << 20, 19_998
 
-# The spans of the offers of a reference: first day, last day, and an amount in thousandths, none without a price.
+# The spans of a reference's offers: first day, last day, and an amount in thousandths, or None without a price.
 Spans = list[tuple[str, str, int | None]]
 
 
 class Kind(NamedTuple):
-    """For whom, and of what, a price is."""
+    """The country, currency, price type and quantity of a price."""
 
     country: str
     currency: str
@@ -45,7 +45,7 @@ class Kind(NamedTuple):
 
 @dataclass
 class Findings:
-    """Of how many references it is so."""
+    """The references of each finding."""
 
     looked_at: int = 0
     jumped: list[str] = field(default_factory=list)
@@ -55,14 +55,14 @@ class Findings:
 
 @dataclass
 class Answers:
-    """By ISBN and kind the spans of each series and reference, and by ISBN the record of the choice."""
+    """By ISBN and kind, the spans of each series and reference; by ISBN, the record of the choice."""
 
     offers: dict[tuple[str, Kind], dict[tuple[str, str], Spans]] = field(default_factory=dict)
     choices: dict[str, list[str]] = field(default_factory=dict)
 
 
 def look_at(inbox: Inbox, feed: Feed) -> tuple[Findings, int] | None:
-    """What the file would change, and of how many articles the desk has something; nothing where it has nothing."""
+    """What the file would change, and of how many articles the desk has something; None if it has nothing."""
     products, total = drawn(feed)
     kinds = kinds_of(inbox, products)
     known = known_of(inbox, products, kinds[0])
@@ -82,11 +82,11 @@ def look_at(inbox: Inbox, feed: Feed) -> tuple[Findings, int] | None:
     return findings, len(known) * total // len(products)
 
 
-# What is looked at
+# Which references are compared
 
 
 def products_in(feed: Feed) -> Iterator[Product]:
-    """The products that change something that the desk finds by an ISBN: an update without supplies does not."""
+    """The products that change what the desk finds by an ISBN; an update without supplies does not."""
     for message in feed.messages:
         for product in products_of(message.text):
             if product.isbns and (product.has_supply or product.is_block or product.is_deletion):
@@ -94,7 +94,7 @@ def products_in(feed: Feed) -> Iterator[Product]:
 
 
 def drawn(feed: Feed) -> tuple[dict[str, list[Product]], int]:
-    """The products of some references, drawn by digest, and of how many references they are."""
+    """The products of some references, drawn by digest, and the number of references."""
     lots = {}
     for product in products_in(feed):
         lots[product.reference] = hashlib.sha256(f"{feed.file.digest} {product.reference}".encode()).hexdigest()
@@ -106,8 +106,8 @@ def drawn(feed: Feed) -> tuple[dict[str, list[Product]], int]:
 
 
 def fitting(products: dict[str, list[Product]]) -> dict[str, Records]:
-    """The records of as many references as fit into a message, each behind one without supplies, as if that had been
-    there."""
+    """The records of as many references as fit into a message. Before each stands one without supplies, as if the
+    reference had been there."""
     found: dict[str, Records] = {}
     count, size = 0, 0
     for reference, many in products.items():
@@ -121,11 +121,11 @@ def fitting(products: dict[str, list[Product]]) -> dict[str, Records]:
 
 
 def kinds_of(inbox: Inbox, products: dict[str, list[Product]]) -> list[Kind]:
-    """For whom prices are compared: the shop, and whom most prices of the file are for."""
+    """The kinds of prices to compare: the shop's, and the one of most prices in the file."""
     prices: Counter[tuple[str, str]] = Counter()
     countries: Counter[str] = Counter()
     quantities: Counter[int] = Counter()
-    # For whom the last message with prices was, too: what deletes, or is for others now, does not say it.
+    # And the one of the last message with prices: a file that deletes, or is for others now, does not show it.
     query = "SELECT max(number) FROM message WHERE state = 'applied' AND kinds <> '[]' AND text IS NOT NULL"
     number = inbox.ledger.value(query)
     last = products_of(inbox.ledger.text(number)) if number else ()
@@ -150,14 +150,14 @@ def kinds_of(inbox: Inbox, products: dict[str, list[Product]]) -> list[Kind]:
 
 
 def ask(inbox: Inbox, questions: list[str]) -> Iterator[Records]:
-    """The answers of the desk that is open."""
+    """The answers of the open desk."""
     for start in range(0, len(questions), AT_ONCE):
         some = questions[start : start + AT_ONCE]
         yield from answers_in(inbox.desk.batch("\n".join(some) + "\n"))
 
 
 def known_of(inbox: Inbox, products: dict[str, list[Product]], kind: Kind) -> dict[str, str]:
-    """The references whose ISBN the desk has from this series, with that."""
+    """The references whose ISBN the desk has from this series, each with its ISBN."""
     day, where = inbox.machine.today(), f"{kind.country},{kind.currency},{kind.price_type}"
     isbns = {reference: many[0].isbns[0] for reference, many in products.items()}
     answers = ask(inbox, [f"AskPrice,{isbn},{day},{where}" for isbn in isbns.values()])
@@ -169,7 +169,7 @@ def known_of(inbox: Inbox, products: dict[str, list[Product]], kind: Kind) -> di
 
 
 def questions_of(isbns: list[str], kinds: list[Kind], today: str) -> list[str]:
-    """Calendars from today on, and the choice today."""
+    """Questions for calendars from today on, and for today's choice."""
     last = date(int(today[:4]), int(today[4:6]), int(today[6:])) + timedelta(DAYS)
     found = []
     for isbn in isbns:
@@ -182,7 +182,7 @@ def questions_of(isbns: list[str], kinds: list[Kind], today: str) -> list[str]:
 def both_answers(
     inbox: Inbox, records: dict[str, Records], isbns: list[str], kinds: list[Kind]
 ) -> tuple[Answers, Answers]:
-    """What the desk says, and what one says that has the file's records alone."""
+    """The answers of the desk, and of one that has the file's records alone."""
     questions = questions_of(isbns, kinds, inbox.machine.today())
     parties = [*inbox.settings.sender, "", ""]
     body = [record for group in records.values() for record in group]
@@ -204,7 +204,7 @@ def answers_of(given: Iterator[Records], isbns: list[str], kinds: list[Kind]) ->
 
 
 def offers_in(answer: Records) -> dict[tuple[str, str], Spans]:
-    """The offers of an answer to AskCalendar."""
+    """The offers in an answer to AskCalendar."""
     found: dict[tuple[str, str], Spans] = defaultdict(list)
     for record in answer[1:]:
         if record[0] == "offer":
@@ -214,13 +214,13 @@ def offers_in(answer: Records) -> dict[tuple[str, str], Spans]:
     return dict(found)
 
 
-# What differs
+# The differences
 
 
 def compare(
     findings: Findings, isbn: str, spans: list[tuple[Spans, Spans]], makes_record: bool, is_unchosen: bool
 ) -> None:
-    """Adds to the findings what differs of a reference: its spans before and behind the file, of each kind."""
+    """Adds the differences of a reference to the findings: its spans before and after the file, of each kind."""
     if not any(before for before, _ in spans):
         if makes_record:
             findings.jumped.append(isbn)
@@ -236,7 +236,7 @@ def compare(
 
 
 def amounts(old: Spans, new: Spans) -> Iterator[tuple[int | None, int | None]]:
-    """The least amounts of both on each day on which one of them changes."""
+    """The least amounts in both, for each day on which one of them changes."""
     for day in sorted({first for first, _, _ in [*old, *new]}):
         yield least(old, day), least(new, day)
 

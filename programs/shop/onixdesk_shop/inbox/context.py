@@ -1,4 +1,4 @@
-"""One inbox at work: its series, settings, places, ledger and desk, and the lines that it tells."""
+"""One inbox at work: its series, settings, places, ledger and desk, and the lines that it writes."""
 
 import hashlib
 from dataclasses import dataclass
@@ -22,7 +22,7 @@ class NotAgreed(Fault):
 
 @dataclass(frozen=True)
 class Places:
-    """Where the files of all inboxes are, and the program."""
+    """The folders of all inboxes, and the program."""
 
     program: Path
     incoming: Path = INCOMING
@@ -59,16 +59,16 @@ class Inbox:
         return self.store / f"{file.digest}{file.ending}"
 
     def basis(self, first: int) -> str:
-        """By what files are judged: what was refused by another one is tried again."""
+        """Everything that a file is judged by. If it changes, refused files are tried again."""
         program = self.machine.entry(self.places.program)
         parts = repr((self.settings, self.terms, first, program.size, program.modified))
         return hashlib.sha256(parts.encode()).hexdigest()
 
     def gaps(self) -> Gaps:
-        """The desk's report on the series. NotAgreed where it has no such series."""
+        """The desk's report on the series; raises NotAgreed if it has no such series."""
         found = self.desk.gaps(self.series)
         if found is None:
-            raise NotAgreed(f"the desk has agreed no series {self.series}")
+            raise NotAgreed(f"the desk has not agreed on the series {self.series}")
         return found
 
     def is_let_in(self, file: File) -> bool:
@@ -90,18 +90,18 @@ class Inbox:
         return f"onixdesk-inbox --{what} {file.mark} {self.series}"
 
     def tell_file(self, priority: int, file: File, text: str, *commands: str) -> None:
-        """A line on a file: its commands first, its name last."""
+        """Writes a line about a file: commands first, its name last."""
         self.tell(priority, "; ".join([*commands, text, token(file.name)]))
 
     def tell_refused(self, file: File, why: str, number: int | None = None, *remedies: str) -> None:
-        """That a file is refused, and what to do."""
+        """Writes that a file is refused, and what to do."""
         commands = [*remedies, self.command("dismiss", file)]
         if number is not None and self.settings.number == OWN:
             commands.append(f"onixdesk-inbox waive {self.series} {number} (or have it sent again under its number)")
         self.tell_file(ERROR, file, f"refused: {why}", *commands)
 
     def tell_once(self, subject: str, priority: int, line: str) -> None:
-        """Tells what goes on until somebody does something, once."""
+        """Tells once what holds until somebody does something."""
         if not self.ledger.is_told(subject):
             self.ledger.decide(Decision.TOLD, subject=subject)
             self.tell(priority, line)
@@ -111,16 +111,14 @@ class Inbox:
             self.ledger.decide(Decision.WELL, subject=subject)
 
     def tell_waiting(self, entry: Entry, why: str) -> None:
-        """What is not taken is told once it lies there for an hour."""
+        """Tells of what is not taken, once it has been there for an hour."""
         if self.machine.now() - entry.changed / 1e9 > HOUR:
             self.tell_once(f"not taken {entry.inode} {entry.changed}", ERROR, f"not taken: {why}; {token(entry.name)}")
 
     def tell_known(self, file: File, before: File) -> None:
         if before.state == State.REJECTED:
-            self.tell_file(WARNING, file, "these bytes were refused by a person, and stay so")
+            self.tell_file(WARNING, file, "a person refused these bytes")
         elif before.state == State.REPLACED:
-            self.tell_file(
-                WARNING, file, "a newer full file came in place of these bytes, and they are not taken any more"
-            )
+            self.tell_file(WARNING, file, "a newer full file replaced these bytes, and they are not taken any more")
         elif before.number is not None:
             self.tell_file(NOTICE, file, f"had it already: {before.state} from number {before.number} on")

@@ -1,4 +1,4 @@
-"""What a person decides on a file or a number. It is written down; the next run does it."""
+"""A person's decisions on files and numbers. They are written down; the next run carries them out."""
 
 from collections.abc import Sequence
 
@@ -10,7 +10,7 @@ from onixdesk_shop.settings import OWN
 
 
 def file_of(inbox: Inbox, mark: str) -> File:
-    """The file that has a mark, as the lines have it."""
+    """The file that has a mark."""
     found = [file for file in inbox.ledger.files("substr(digest, 1, 12) = ?", mark[:12]) if file.mark == mark]
     if len(found) != 1:
         raise Failed(f"{len(found)} files have the mark {token(mark)}")
@@ -51,7 +51,7 @@ def dismiss(inbox: Inbox, file: File) -> str:
 
 
 def again(inbox: Inbox, file: File) -> str:
-    """Takes the bytes of a file again, as if they came in now."""
+    """Takes a file again, as if its bytes came in now."""
     if not inbox.settings.gives_number(file.ending):
         raise Failed("a file with a number of its own has to be sent again under a new one")
     if file.state not in (State.APPLIED, State.HAD, State.REFUSED, State.REJECTED):
@@ -67,7 +67,7 @@ DECISIONS = {"let-in": let_in, "refuse": refuse, "dismiss": dismiss, "again": ag
 
 
 def decide(inbox: Inbox, what: str, mark: str) -> int:
-    """One transaction: the decision, and the state that follows."""
+    """Writes the decision and the file's new state, in one transaction."""
     with inbox.ledger.step():
         file = file_of(inbox, mark)
         said = DECISIONS[what](inbox, file)
@@ -76,7 +76,7 @@ def decide(inbox: Inbox, what: str, mark: str) -> int:
 
 
 def waive(inbox: Inbox, numbers: Sequence[int]) -> int:
-    """Has numbers waived that will never come; also those of a file whose texts are not kept any more."""
+    """Waives numbers that will never come, also those of a file whose texts were removed."""
     ledger = inbox.ledger
     with ledger.step():
         for number in numbers:
@@ -93,8 +93,8 @@ def waive(inbox: Inbox, numbers: Sequence[int]) -> int:
 
 
 def take_back(inbox: Inbox, numbers: Sequence[int]) -> int:
-    """The waivers of numbers are not made again. The desk has them until its text is corrected, also one that an older
-    copy brings."""
+    """The inbox no longer waives these numbers. The desk has the waivers until its text is corrected, and again after a
+    restore of an older copy."""
     with inbox.ledger.step():
         for number in {*inbox.ledger.waived()}.intersection(numbers):
             inbox.ledger.decide(Decision.UNWAIVE, number=number)

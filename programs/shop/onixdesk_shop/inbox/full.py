@@ -1,4 +1,4 @@
-"""What a full file does not name any more: deleted by records at its end, for the desk has no file that says all. These
+"""Deletes what a full file no longer names, by records at its end, since the desk has no file that says all. These
 records are the one thing that the desk is told without proof."""
 
 from __future__ import annotations
@@ -17,17 +17,17 @@ from onixdesk_shop.messages import is_end, products_of, records_of, text_of
 if TYPE_CHECKING:
     from onixdesk_shop.inbox.judging import Feed
 
-# The pair of identifiers of a record that is deleted.
+# The type of the identifier in a record that deletes.
 OF_REFERENCE = "01"
 
 MOST_RECORDS = 20_000
 
-# After so many full files in a row that deleted nothing for a reason, somebody has to look.
+# After so many full files in a row that for some reason deleted nothing, a person has to look.
 IN_A_ROW = 3
 
 
 def with_deletions(inbox: Inbox, feed: Feed, gaps: Gaps) -> list[Message]:
-    """The messages of a file, and, where it is full, what it does not name any more deleted at their ends."""
+    """The messages of a file. If it is full, records at their ends delete what it no longer names."""
     if not inbox.settings.is_full(feed.file.name):
         return feed.messages
     gone = not_named(inbox, feed)
@@ -37,7 +37,7 @@ def with_deletions(inbox: Inbox, feed: Feed, gaps: Gaps) -> list[Message]:
         return feed.messages
     articles = inbox.ledger.articles()
     if len(gone) >= LEAST and len(gone) * 5 > articles and not inbox.is_let_in(feed.file):
-        raise Quarantine(f"it does not name {len(gone)} of {articles} articles any more, which would be deleted")
+        raise Quarantine(f"it no longer names {len(gone)} of {articles} articles, which would be deleted")
     return filled(feed.messages, gone)
 
 
@@ -51,7 +51,7 @@ def why_not(feed: Feed, gaps: Gaps) -> str:
 
 
 def not_named(inbox: Inbox, feed: Feed) -> list[str]:
-    """The references that no file has named from the N-th last full one on, this one among them."""
+    """The references that no file has named since the N-th last full file; this one counts."""
     ledger = inbox.ledger
     numbers = [file.number or 0 for file in ledger.full_files()][: inbox.settings.full - 1]
     if len(numbers) < inbox.settings.full - 1:
@@ -62,8 +62,7 @@ def not_named(inbox: Inbox, feed: Feed) -> list[str]:
 
 
 def filled(messages: list[Message], gone: list[str]) -> list[Message]:
-    """The messages with deletions at their ends, as many as there is room for. What has no room is deleted by the next
-    full file."""
+    """The messages, with as many deletions at their ends as fit. The next full file deletes the others."""
     found, rest = [], list(gone)
     for message in messages:
         records, size = sum(1 for _ in records_of(message.text)), len(message.text)
@@ -83,7 +82,7 @@ def deletion(reference: str) -> list[str]:
 
 
 def with_records(message: Message, added: list[list[str]]) -> Message:
-    """A message with products before its end."""
+    """A message with more products before its end."""
     if not added:
         return message
     records = list(records_of(message.text))
@@ -93,7 +92,7 @@ def with_records(message: Message, added: list[list[str]]) -> Message:
 
 
 def with_deletions_of(inbox: Inbox, row: Row, message: Message) -> Message:
-    """A message of a number that comes again, with what was added to the one that has the number."""
+    """A message that comes again, with the records that were added to the first one of its number."""
     if not row.deletions or not row.has_text:
         return message
     records = [record for record in records_of(inbox.ledger.text(row.number)) if not is_end(record)]
@@ -101,18 +100,18 @@ def with_deletions_of(inbox: Inbox, row: Row, message: Message) -> Message:
 
 
 def replace_older(inbox: Inbox, file: File) -> None:
-    """A full file that passes, and has a new number, says all: what is older and waits for a person is not taken any
+    """A full file that passes, and has a new number, says all: older files that wait for a person are not taken any
     more."""
     if not inbox.settings.says_all(file.name):
         return
     for older in inbox.ledger.files(
         "state IN (?, ?) AND time < ? AND ending <> '.csv'", State.QUARANTINED, State.NEW, file.time
     ):
-        inbox.ledger.set_state(older, State.REPLACED, f"the full file {file.mark} came behind it")
+        inbox.ledger.set_state(older, State.REPLACED, f"the full file {file.mark} came after it")
 
 
 def tell_in_a_row(inbox: Inbox) -> None:
-    """That several full files in a row deleted nothing."""
+    """Tells that several full files in a row deleted nothing."""
     last = inbox.ledger.full_files()[:IN_A_ROW]
     if len(last) == IN_A_ROW and all(file.not_deleted for file in last):
         why = last[0].not_deleted

@@ -1,4 +1,4 @@
-"""What the folder of a wholesaler has, taken into the store: copied, synced, written down, and only then removed."""
+"""Takes a wholesaler's files into the store: copies, syncs and writes them down, and only then removes them."""
 
 import os
 import re
@@ -12,15 +12,15 @@ from onixdesk_shop.machine import Entry
 
 ENDINGS = {".csv": ".csv", ".xml": ".xml", ".onix": ".xml", ".onx": ".xml", ".gz": ".gz", ".zip": ".zip"}
 
-# How files are named that are still being written.
+# The endings of files that are still being written.
 UNFINISHED = (".part", ".partial", ".filepart", ".tmp", ".uploading")
 
 SECOND = 1_000_000_000
 
-# A server that gives no time gives that of 1970.
+# A server that gives no times gives that of 1970.
 FIRST_TIME = 315_532_800 * SECOND
 
-# How long files are left in a folder that is a mirror of the server's.
+# How long files stay in a folder that mirrors the server's.
 LEFT_SECONDS = 60 * 86_400
 
 COPY = ".new"
@@ -29,7 +29,7 @@ is_stored = re.compile(r"([0-9a-f]{64})(\.csv|\.xml|\.gz|\.zip)").fullmatch
 
 
 def take_in(inbox: Inbox) -> None:
-    """Takes each whole file of the folder. Who fills it meanwhile has its lock; then it is passed over."""
+    """Takes each whole file in the folder, unless a program that fills it holds its lock."""
     adopt(inbox)
     with inbox.machine.lock(inbox.incoming, waits=False) as is_free:
         if is_free:
@@ -42,7 +42,7 @@ def take_entry(inbox: Inbox, entry: Entry) -> None:
     if name.startswith(".") or name.endswith(UNFINISHED):
         why = "it seems to be still being written"
     elif not entry.is_regular:
-        why = "it is no regular file"
+        why = "it is not a regular file"
     elif Path(name).suffix not in ENDINGS:
         why = f"it does not end in {', '.join(ENDINGS)}"
     elif inbox.machine.now() - entry.changed / 1e9 < inbox.settings.unchanged_seconds:
@@ -54,9 +54,9 @@ def take_entry(inbox: Inbox, entry: Entry) -> None:
 
 
 def take_file(inbox: Inbox, entry: Entry) -> str:
-    """Takes a whole file; why it could not, or an empty text."""
+    """Takes a whole file, or returns why it could not."""
     if inbox.settings.leave and (known := inbox.ledger.left(subject_of(entry))):
-        # Once nothing is to be done with it for a good while it is removed.
+        # Once nothing was done with it for a long time, it is removed.
         is_old = inbox.machine.now() - max(known.seen, known.at) > LEFT_SECONDS
         if is_old and known.state in (*AT_END, State.REFUSED):
             inbox.machine.remove(inbox.incoming / entry.name)
@@ -74,7 +74,7 @@ def take_file(inbox: Inbox, entry: Entry) -> str:
     stored = inbox.store / f"{digest}{ending}"
     is_new = inbox.settings.gives_number(ending) or not machine.exists(stored)
     if machine.exists(stored):
-        # With the time by which it was judged.
+        # With the time that it was judged by.
         machine.remove(copy)
     else:
         machine.rename(copy, stored)
@@ -93,12 +93,12 @@ def take_file(inbox: Inbox, entry: Entry) -> str:
 
 
 def time_of(entry: Entry) -> int:
-    """When its server says that it was written: never behind its arrival, which counts where the server says nothing."""
+    """When it was written, as its server says: never after its arrival, which counts if the server says nothing."""
     return min(entry.modified, entry.changed) if entry.modified >= FIRST_TIME else entry.changed
 
 
 def name_of(entry: Entry) -> str:
-    """By which it came: FULL_NAMES go by it."""
+    """The name under which it came, which FULL_NAMES matches."""
     return re.sub("^taken-[0-9a-f]{12}-", "", entry.name)
 
 
@@ -110,8 +110,8 @@ def is_as_it_was(inbox: Inbox, entry: Entry) -> bool:
 
 
 def remove(inbox: Inbox, entry: Entry, mark: str) -> None:
-    """Removes a file that is in the store. It gets a name of ours first: what took its place meanwhile is taken by the
-    next run, before that name is used again."""
+    """Removes a file that is in the store. It gets a name of ours first: the next run takes what took its place
+    meanwhile, before that name is used again."""
     taken = inbox.incoming / f"taken-{mark}-{os.fsdecode(os.fsencode(name_of(entry))[-200:])}"
     if entry.name != taken.name and inbox.machine.exists(taken):
         return
@@ -125,12 +125,12 @@ def remove(inbox: Inbox, entry: Entry, mark: str) -> None:
 
 
 def subject_of(entry: Entry) -> str:
-    """By what a file that is left in its folder is known again: several may have the same bytes."""
+    """By this a file that was left in its folder is recognized: several may have the same bytes."""
     return f"left {entry.size} {entry.modified} {shown(entry.name)}"
 
 
 def adopt(inbox: Inbox) -> None:
-    """Takes in what lies in the store without a row: a ledger was put back from a copy, or its writer was killed."""
+    """Takes in files in the store without a row: a ledger was restored from a copy, or its writer was killed."""
     machine = inbox.machine
     for entry in machine.entries(inbox.store):
         found = is_stored(entry.name)

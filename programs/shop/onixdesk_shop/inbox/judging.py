@@ -1,4 +1,4 @@
-"""One file, judged: converted, checked, compared, and put into the ledger in one transaction."""
+"""Judges one file: converts, checks and compares it, and writes the result into the ledger in one transaction."""
 
 import json
 import re
@@ -23,13 +23,13 @@ from onixdesk_shop.messages import header_of, is_message, products_of
 from onixdesk_shop.places import WORK
 from onixdesk_shop.settings import OWN
 
-# With more records of one ISBN a question about it keeps all others waiting.
+# With more records of one ISBN, a question about it keeps all others waiting.
 MOST_RECORDS_OF_ONE_ISBN = 1000
 
 
 @dataclass
 class Feed:
-    """A file as messages, the words and the table of terms by which it was converted, and what there was to say."""
+    """A file as messages, with the options and terms that it was converted by, and what the converter said."""
 
     file: File
     messages: list[Message]
@@ -59,19 +59,19 @@ def judge(inbox: Inbox, file: File, gaps: Gaps) -> None:
     except Quarantine as why:
         quarantine_file(inbox, file, str(why))
     except BadEnd as end:
-        # Not the file's fault, for all that is known: a person has it tried again.
+        # As far as we know, this is not the file's fault: a person lets it be tried again.
         quarantine_file(inbox, file, f"it cannot be judged: {end}")
     except (Fault, OSError, sqlite3.Error):
         raise
     except Exception as error:
-        # A mistake of this program: no file of others stops the series without a word, and none passes by it.
+        # A bug of this program: the series neither stops without a word nor goes past the file.
         last = traceback.extract_tb(error.__traceback__)[-1]
         where = f"{Path(last.filename).name}:{last.lineno}"
         quarantine_file(inbox, file, f"it cannot be judged: {type(error).__name__} at {where}: {cut(str(error))}")
 
 
 def offset_for(inbox: Inbox, file: File, gaps: Gaps) -> list[str]:
-    """The setting by which a wholesaler that seems to begin again at 1 goes on."""
+    """The setting with which a wholesaler goes on that seems to begin again at 1."""
     settings, last = inbox.settings, inbox.ledger.last_taken()
     if settings.number != OWN or file.ending == ".csv" or file.number is None or last is None or file.time < last:
         return []
@@ -91,7 +91,7 @@ def quarantine_file(inbox: Inbox, file: File, why: str) -> None:
 
 
 def feed_of(inbox: Inbox, file: File, gaps: Gaps, words: list[str], terms: bytes | None) -> Feed:
-    """A file as messages, under the number that it has or would be given."""
+    """A file as messages, under the number that it has or would get."""
     source = inbox.stored(file)
     if not inbox.machine.exists(source):
         raise Refusal("its bytes are not kept any more; have it sent again")
@@ -112,7 +112,7 @@ def feed_of(inbox: Inbox, file: File, gaps: Gaps, words: list[str], terms: bytes
 
 
 def agreement(inbox: Inbox, file: File) -> str:
-    """The record by which a series is agreed that has no message yet, with the addressee of a file's."""
+    """The record that agrees on a series without messages, with the addressee of this file."""
     try:
         feed = feed_of(inbox, file, Gaps(1, 1, None, ()), list(inbox.settings.words), inbox.terms)
         addressee = header_of(feed.messages[0].text).addressee
@@ -122,7 +122,7 @@ def agreement(inbox: Inbox, file: File) -> str:
 
 
 def message_of(inbox: Inbox, text: bytes) -> Message:
-    """A text that the desk takes, of this wholesaler, with a number. Refusal where it is none."""
+    """A text of this wholesaler, with a number, that the desk takes; raises Refusal for any other."""
     why = check(inbox.machine, inbox.places.program, text)
     if why or not is_message(text):
         raise Refusal(why or "its records are not one message")
@@ -137,7 +137,7 @@ def message_of(inbox: Inbox, text: bytes) -> Message:
 
 
 def look_at(inbox: Inbox, feed: Feed, gaps: Gaps) -> None:
-    """Counts its products. Refusal where one ISBN has too many records, or a number is not taken any more."""
+    """Counts its products. Refusal if one ISBN has too many records, or the desk does not take a number any more."""
     records: Counter[str] = Counter()
     suppliers: set[tuple[str, ...]] = set()
     for message in feed.messages:
@@ -162,7 +162,7 @@ def look_at(inbox: Inbox, feed: Feed, gaps: Gaps) -> None:
 
 
 def final_row(inbox: Inbox, file: File, number: int) -> Row | None:
-    """What stands at a number of another file, whose text is final; what has no agreement yet keeps its number too."""
+    """The message that another file has for good at a number; one that waits for an agreement keeps its number too."""
     row = inbox.ledger.row(number)
     if not row or row.file == file.id:
         return None
@@ -171,7 +171,7 @@ def final_row(inbox: Inbox, file: File, number: int) -> Row | None:
 
 
 def take(inbox: Inbox, feed: Feed, others: dict[int, Row], messages: list[Message]) -> None:
-    """Gives the file its numbers and texts. What stands at one of them already is another file's, and stays."""
+    """Gives the file its numbers and texts. A number that another file has stays that file's."""
     ledger, file = inbox.ledger, feed.file
     own = {row.number for row in ledger.messages_of(file) if row.state in (State.POSTED, State.HELD, State.APPLIED)}
     with ledger.step():
@@ -188,8 +188,9 @@ def take(inbox: Inbox, feed: Feed, others: dict[int, Row], messages: list[Messag
 
 
 def post_again(inbox: Inbox, feed: Feed, others: dict[int, Row], gaps: Gaps) -> Feed | None:
-    """Numbers that come again in other bytes: converted as they were first, and posted once behind the ledger's own, unkept.
-    The desk says whether they are the same. The feed so, where other numbers of it are new."""
+    """Numbers that came again in other bytes: the file is converted as their first one was, and posted once after the
+    ledger's text, but not kept. The desk says whether the contents are the same. Returns the feed if it has new numbers
+    too."""
     ledger, file = inbox.ledger, feed.file
     first, numbers = ledger.file(others[min(others)].file), {message.number for message in feed.messages}
     words, terms = json.loads(first.words), first.terms
@@ -215,8 +216,8 @@ def post_again(inbox: Inbox, feed: Feed, others: dict[int, Row], gaps: Gaps) -> 
 
 
 def is_below_and_same(inbox: Inbox, row: Row, message: Message, gaps: Gaps) -> bool:
-    """Whether a message has a number that the desk takes no more, and the products that it took there. Refusal where it
-    has others."""
+    """Whether the desk no longer takes a message's number, but took these products there. Raises Refusal if it took
+    others."""
     if message.number >= gaps.first:
         return False
     known = inbox.ledger.text(row.number) if row.has_text else b""
@@ -228,8 +229,8 @@ def is_below_and_same(inbox: Inbox, row: Row, message: Message, gaps: Gaps) -> b
 
 
 def retry_refused(inbox: Inbox, gaps: Gaps) -> None:
-    """What was refused by other settings, terms, agreement or program is judged anew, and what the desk had another message
-    or a waiver of, or had no place for, and lacks now."""
+    """Judges refused files anew: if settings, terms, agreement or program changed, or if the desk now lacks what it had
+    at their numbers, or had no place for."""
     ledger = inbox.ledger
     judge_anew(inbox, "state = 'refused' AND basis <> ?", inbox.basis(gaps.first))
     beginnings = "refused,other-contents", "refused,waived", "refused,before-first", "held", "applied"

@@ -1,18 +1,18 @@
-"""How long bytes and texts are kept: what the desk has applied for 120 days, what it has not as long as that is so."""
+"""How long bytes and texts are kept: 120 days if the desk has applied them, and always until then."""
 
 from onixdesk_shop.inbox.context import Inbox
 from onixdesk_shop.inbox.ledger import State
 
 KEPT_SECONDS = 120 * 86_400
 
-# A clock that is wrong for a while takes nothing away that a copy of the last nights may need.
+# Even if a clock was wrong for a while, nothing goes that a copy of the last nights may need.
 KEPT_FILES, KEPT_NUMBERS = 100, 500
 
 AT_END = (State.APPLIED, State.HAD, State.REJECTED, State.REPLACED)
 
 
 def clear(inbox: Inbox) -> None:
-    """Removes the bytes of files, and then the texts of messages, that are old enough."""
+    """Removes the bytes of old files, and then the texts of old messages."""
     before = int(inbox.machine.now()) - KEPT_SECONDS
     marks = ", ".join("?" for _ in AT_END)
     at_end = f"state IN ({marks}) AND digest NOT IN (SELECT digest FROM file WHERE state NOT IN ({marks}))"

@@ -1,4 +1,4 @@
-"""The ledger: all that an inbox knows. Each call that writes is one transaction, or stands in the caller's."""
+"""The ledger: all that an inbox knows. Each call that writes is a transaction, or a part of the caller's."""
 
 import contextlib
 import hashlib
@@ -18,7 +18,7 @@ SCHEMA = Path(__file__).with_name("ledger.sql")
 
 
 class State(StrEnum):
-    """The states of files, and of messages; of the first two of these a file has one once the desk has it whole."""
+    """The states of files and messages. A file has one of the first two once the desk has all of it."""
 
     HELD, APPLIED, REFUSED = "held", "applied", "refused"
     NEW, QUARANTINED, POSTING, HAD, REJECTED, REPLACED = "new", "quarantined", "posting", "had", "rejected", "replaced"
@@ -57,7 +57,7 @@ class File:
 
     @property
     def mark(self) -> str:
-        """By what commands name it."""
+        """The name of the file in commands."""
         return self.digest[:12] if self.taking == 1 else f"{self.digest[:12]}.{self.taking}"
 
 
@@ -74,13 +74,13 @@ class Row(NamedTuple):
 
     @property
     def was_taken(self) -> bool:
-        """Whether a desk took its text, this one or one before."""
+        """Whether the desk took its text, now or before."""
         return bool(self.has_text) and self.answer.startswith(("held,", "applied,"))
 
 
 @dataclass(frozen=True)
 class Message:
-    """A text that is to stand at a number."""
+    """A text to be kept at a number."""
 
     number: int
     text: bytes
@@ -107,7 +107,7 @@ class Ledger:
 
     @contextlib.contextmanager
     def step(self) -> Iterator[None]:
-        """One transaction; within another one it is a part of that."""
+        """One transaction, or a part of the one around it."""
         if self.connection.in_transaction:
             yield
             return
@@ -134,8 +134,8 @@ class Ledger:
         return self.files("id = ?", number)[0]
 
     def take(self, digest: str, name: str, ending: str, size: int, modified: int, time: int, is_new: bool) -> File:
-        """Writes the row of bytes that came in. What came before keeps its state, but for what was refused, which is
-        tried again: `is_new`, as if it had not come before; else in its place of then, before others of its number."""
+        """Writes a row for bytes that came in. Bytes that came before keep their state, unless they were refused: those
+        are tried again, as new ones if `is_new`, or else in their old place, before others of their number."""
         now = int(self.machine.now())
         with self.step():
             known = self.latest(digest)
@@ -150,14 +150,14 @@ class Ledger:
             if known.state == State.NEW:
                 self.set_of_file(known, time=min(time, known.time))
             if known.state == State.REFUSED and not self.is_final(known):
-                # What keeps its number until its series is agreed keeps its place, too.
+                # Files that keep their number until the series is agreed also keep their place.
                 is_new &= not self.messages("file = ? AND answer = 'refused,unknown-series'", known.id)
                 self.set_of_file(known, time=time if is_new else min(time, known.time), ending=ending)
                 self.set_state(known, State.NEW, "its bytes were put there again")
             return self.file(known.id)
 
     def take_again(self, file: File) -> None:
-        """Another row of the same bytes, as if they came in now."""
+        """Another row for the same bytes, as if they came in now."""
         now = self.machine.now()
         self.do(
             "INSERT INTO file (digest, taking, name, ending, size, modified, time, seen, state, at)"
@@ -167,7 +167,7 @@ class Ledger:
         )
 
     def latest(self, digest: str) -> File | None:
-        """The last taking of these bytes."""
+        """The last row of these bytes."""
         found = self.files("digest = ?", digest)
         return max(found, key=lambda file: file.taking) if found else None
 
@@ -176,7 +176,7 @@ class Ledger:
         return any(row.state in states for row in self.messages_of(file))
 
     def is_final(self, file: File) -> bool:
-        """Whether a text of a file is final: the desk has it, or may have it, or one before took it."""
+        """Whether a text of a file is final: the desk has it or may have it, or took it before."""
         refused = [row for row in self.messages_of(file) if row.state == State.REFUSED]
         return any(row.was_taken for row in refused) or self.has_stood(file)
 
@@ -194,7 +194,7 @@ class Ledger:
         return sorted(found, key=lambda file: file.number or 0, reverse=True)
 
     def last_taken(self) -> int | None:
-        """The time of the latest file of which a desk has, or may have, something, or had, at a number of ours."""
+        """The time of the latest file of which the desk has, may have or had something, at a number that we gave."""
         query = "SELECT max(time) FROM file JOIN message ON message.file = file.id WHERE ending <> '.csv'"
         is_kept = "message.state = 'refused' AND (answer LIKE 'held,%' OR answer LIKE 'applied,%')"
         found: int | None = self.value(
@@ -202,10 +202,10 @@ class Ledger:
         )
         return found
 
-    # What is told of them
+    # Figures about files
 
     def count_waiting(self, gaps: Gaps | None) -> int:
-        """The files that wait for the desk or a number, or of which that lacks something by now."""
+        """The files that wait for the desk or for a number, or that the desk now lacks in part."""
         waiting = {file.id for file in self.files("state IN ('new', 'posting', 'held')")}
         return len(waiting | {row.file for row in (self.to_post(gaps) if gaps else [])})
 
@@ -215,12 +215,12 @@ class Ledger:
         return int(self.value(f"SELECT count(*) FROM file WHERE state = 'refused' AND NOT EXISTS ({decided})"))
 
     def heard_at(self) -> int | None:
-        """When a file came last that was no empty one."""
+        """When the last file with products came."""
         found: int | None = self.value("SELECT max(seen) FROM file WHERE coalesce(products, 1) > 0")
         return found
 
     def kinds_since(self, second: int) -> list[list[str]]:
-        """The types and currencies of the prices of messages since then, in order."""
+        """The types and currencies of prices in messages since then, in order."""
         found = {
             tuple(kind)
             for (kinds,) in self.rows("SELECT DISTINCT kinds FROM message WHERE at >= ?", second)
@@ -229,7 +229,7 @@ class Ledger:
         return [list(kind) for kind in sorted(found)]
 
     def count_older_terms(self, terms: bytes | None) -> int:
-        """The articles that were converted last with another table of terms than this."""
+        """How many articles were last converted with another table of terms."""
         query = (
             "SELECT count(*) FROM reference JOIN message USING (number) JOIN file ON file.id = message.file"
             " WHERE NOT deleted AND ending <> '.csv' AND file.terms IS NOT ?"
@@ -239,7 +239,7 @@ class Ledger:
     def agreement(
         self, series: str, sender: tuple[str, str], first: int | None = None, addressee: tuple[str, str] = ("", "")
     ) -> str:
-        """The record by which a series is agreed, as far as messages tell the addressee and the first number."""
+        """The record that agrees on the series, as far as messages tell the addressee and the first number."""
         number = self.value("SELECT min(number) FROM message WHERE text IS NOT NULL")
         addressee = header_of(self.text(number)).addressee if number else addressee
         first = first or self.value("SELECT min(number) FROM message") or 1
@@ -260,7 +260,7 @@ class Ledger:
         return zlib.decompress(self.value("SELECT text FROM message WHERE number = ?", number))
 
     def put(self, file: File, messages: Iterable[Message]) -> None:
-        """Puts texts at their numbers. SQLite refuses another text where one is final."""
+        """Puts texts at their numbers. SQLite refuses to replace a final one."""
         now = int(self.machine.now())
         with self.step():
             for message in messages:
@@ -274,13 +274,13 @@ class Ledger:
                 )
 
     def set_message(self, number: int, state: str, answer: str = "") -> None:
-        """An answer of before stays where there is no other."""
+        """Without a new answer, the old one stays."""
         values = "state = ?, at = ?, answer = coalesce(nullif(?, ''), answer)"
         self.do(f"UPDATE message SET {values} WHERE number = ?", state, int(self.machine.now()), answer, number)
 
     def to_post(self, gaps: Gaps) -> list[Row]:
-        """What is to be posted, in order of numbers: what has no answer yet; what was held, and is no more; and what the
-        desk had, and lacks. Nothing of a file that a person refused."""
+        """What to post, in order of number: messages without an answer, messages no longer held, and messages that the
+        desk had and now lacks; nothing of a file that a person refused."""
         where = (
             "(state IN ('ready', 'posted') OR state = 'held' AND number >= ? OR state = 'applied' AND number >= ?)"
             " AND file NOT IN (SELECT id FROM file WHERE state = 'rejected')"
@@ -289,13 +289,13 @@ class Ledger:
         return [row for row in found if row.number < gaps.next or row.state in new or gaps.lacks(row.number)]
 
     def last_final(self) -> int:
-        """The greatest number that its file has for good, or that is waived."""
+        """The greatest number that a file has for good, or that is waived."""
         found = [row.number for row in self.messages("1") if row.was_taken or row.state in STANDING]
         return max([*found, *self.waived()], default=0)
 
     def next_number(self, gaps: Gaps, parts: int) -> int:
-        """The number that a new file gets: above all that are given, and all that the desk has, the first of a whole
-        group of parts."""
+        """The number for a new file: above all given ones and all that the desk has, and the first of a whole group of
+        parts."""
         given = self.value("SELECT max(number) FROM message WHERE state <> 'returned'") or 0
         before = max(given, gaps.greatest or 0, gaps.first - 1)
         return (before + parts - 1) // parts * parts + 1
@@ -303,8 +303,8 @@ class Ledger:
     # References
 
     def name_references(self, number: int, products: Iterable[Product]) -> None:
-        """What an applied message names, unless a later one named it: a block makes a record, an update or a deletion
-        changes one that is there."""
+        """Notes what an applied message names, unless a later message named it. A block makes a record; an update or a
+        deletion changes an existing one."""
         with self.step():
             for product in products:
                 if product.is_block:
@@ -321,7 +321,7 @@ class Ledger:
                     )
 
     def forget_references(self, number: int) -> None:
-        """What a message named that stands no more is as the ones before it named it, as far as their texts are kept."""
+        """What a rejected message named is again as the messages before it named it, as far as their texts are kept."""
         with self.step():
             self.do("UPDATE reference SET number = 0, deleted = 1 WHERE number = ?", number)
             query = "SELECT number FROM message WHERE state = 'applied' AND text IS NOT NULL ORDER BY number"
@@ -333,7 +333,7 @@ class Ledger:
         return int(self.value("SELECT count(*) FROM reference WHERE NOT deleted"))
 
     def references_before(self, number: int) -> list[str]:
-        """Those that no message from that number on named."""
+        """The references that no message from that number on has named."""
         query = "SELECT reference FROM reference WHERE NOT deleted AND number < ? ORDER BY reference"
         return [reference for (reference,) in self.rows(query, number)]
 
@@ -353,12 +353,12 @@ class Ledger:
         return self.file(row.file).state != State.REJECTED
 
     def waived(self, decision: Decision = Decision.WAIVE) -> list[int]:
-        """The numbers of which it was decided last that they are waived, or that they are not any more."""
+        """The numbers whose last decision is this one: that they are waived, or no longer."""
         last = "SELECT number, what, max(id) FROM decision WHERE what IN ('waive', 'unwaive') GROUP BY number"
         return [number for number, what, _ in self.rows(last) if what == decision]
 
     def left(self, subject: str) -> File | None:
-        """The file that was taken and left in its folder, by what is told of it."""
+        """The file that was taken but left in its folder."""
         number = self.value("SELECT file FROM decision WHERE what = 'told' AND subject = ?", subject)
         return None if number is None else self.file(number)
 

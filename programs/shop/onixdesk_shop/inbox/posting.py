@@ -1,4 +1,4 @@
-"""What the ledger has, posted to the desk: only the ledger's text, in order of numbers."""
+"""Posts to the desk: only the ledger's text, in order of number."""
 
 import itertools
 
@@ -9,13 +9,13 @@ from onixdesk_shop.inbox.ledger import Decision, File, Row, State
 from onixdesk_shop.lines import ERROR, NOTICE, WARNING, count, cut, ranges
 from onixdesk_shop.messages import products_of
 
-# How often the desk is asked anew: what closes a gap lets it apply what waited.
+# How often the desk is asked again: closing a gap lets it apply what waited.
 ROUNDS = 3
 
-# Why a number that was free a moment ago is another message's.
+# Why a number that was free a moment ago now has another message.
 QUICKER = "other-contents", "waived", "before-first"
 
-# Behind a reason the desk says its series, the number, and the first number.
+# After a reason the desk says its series, the number, and the first number.
 REASONS = {
     "unknown-series": "no series of its sender and addressee is agreed",
     "before-first": "number {1} is below the first number of the series, {2}",
@@ -26,7 +26,7 @@ REASONS = {
 
 
 class TextsGone(Fault):
-    """The desk lacks messages whose texts are not kept any more."""
+    """The desk lacks messages whose texts were removed."""
 
 
 def why_refused(refused: Refused) -> str:
@@ -37,7 +37,7 @@ def why_refused(refused: Refused) -> str:
 
 
 def post_all(inbox: Inbox, gaps: Gaps) -> Gaps:
-    """Posts what is to be posted, and gives the desk's report behind it."""
+    """Posts what is to be posted; returns the desk's report after it."""
     for _ in range(ROUNDS):
         rows = inbox.ledger.to_post(gaps)
         if gone := [row.number for row in rows if not row.has_text]:
@@ -55,10 +55,10 @@ def post_all(inbox: Inbox, gaps: Gaps) -> Gaps:
 
 
 def post_row(inbox: Inbox, row: Row) -> None:
-    """Posts one message. That it is being posted is written down first: its text is final then."""
+    """Posts one message. First it writes down that it does: from then on the text is final."""
     current = inbox.ledger.row(row.number)
     if not current or current.state not in (State.READY, State.POSTED, State.HELD, State.APPLIED):
-        # What came before in this round gave its number back.
+        # A message earlier in this round gave its number back.
         return
     if current.state == State.READY:
         inbox.ledger.set_message(row.number, State.POSTED)
@@ -79,13 +79,13 @@ def settle_taken(inbox: Inbox, row: Row, answer: Taken) -> None:
     if state == State.APPLIED and row.state != State.APPLIED:
         ledger.name_references(row.number, products_of(ledger.text(row.number)))
         if unknown := answer.counts["unknown"]:
-            said = f"{count(unknown, 'change')} of what the desk has not: ask the wholesaler for a full feed"
+            said = f"{count(unknown, 'change')} of records that the desk lacks: ask the wholesaler for a full feed"
             inbox.tell_file(WARNING, file, said)
     settle_file(inbox, file)
 
 
 def settle_file(inbox: Inbox, file: File) -> None:
-    """The state of a file by those of its messages."""
+    """Derives the state of a file from those of its messages."""
     states = [row.state for row in inbox.ledger.messages_of(file)]
     if file.state == State.REJECTED or State.REFUSED in states:
         return
@@ -101,7 +101,7 @@ def settle_file(inbox: Inbox, file: File) -> None:
 def settle_refused(inbox: Inbox, row: Row, answer: Refused) -> None:
     ledger, why = inbox.ledger, why_refused(answer)
     file = ledger.file(row.file)
-    # With the answer of a desk that took it, it is posted again as it is once the desk lacks it.
+    # A message that the desk took before keeps that answer: once the desk lacks it, it is posted again as it is.
     is_kept = row.was_taken and answer.reason in ("waived", "other-contents", "unknown-series")
     ledger.set_message(row.number, State.REFUSED, "" if is_kept else answer.said)
     is_next = inbox.settings.gives_number(file.ending)
@@ -112,14 +112,14 @@ def settle_refused(inbox: Inbox, row: Row, answer: Refused) -> None:
             ledger.set_state(file, State.NEW, f"number {row.number} went to another message first")
             return
     ledger.set_state(file, State.REFUSED, why)
-    # A number that the desk has, or has no series for, is not to be waived.
+    # Nobody may waive a number that the desk has, or has no series for.
     is_lacking = answer.reason not in (*QUICKER, "unknown-series", "other-series")
     inbox.tell_refused(file, why, row.number if is_lacking else None)
 
 
 def retry_unknown(inbox: Inbox, gaps: Gaps) -> None:
-    """Posts again what no agreement was for, without a line: that the desk has another one by now shows in nothing else.
-    Behind the first that it takes, what no desk took before is judged anew, since there was nothing to compare it
+    """Posts again what had no agreement, without a line: nothing else shows that the desk has agreed meanwhile. After
+    the first that it takes, files that no desk took before are judged anew, since there was nothing to compare them
     with."""
     ledger, is_agreed = inbox.ledger, False
     is_tried = "state = 'refused' AND why = ? OR state = 'new' AND answer = 'refused,unknown-series'"
@@ -139,7 +139,7 @@ def retry_unknown(inbox: Inbox, gaps: Gaps) -> None:
 
 
 def judge_anew(inbox: Inbox, where: str = "state = 'refused'", *values: str) -> None:
-    """Has files judged anew of which no desk has a message; their numbers are free again."""
+    """Has files judged anew if the desk has no message of them; their numbers are free again."""
     ledger = inbox.ledger
     with ledger.step():
         for file in ledger.files(where, *values):
@@ -149,8 +149,8 @@ def judge_anew(inbox: Inbox, where: str = "state = 'refused'", *values: str) -> 
 
 
 def give_back(inbox: Inbox, file: File) -> None:
-    """The numbers of a file that no desk took are free again; of those that the inbox gave none that has a later one behind
-    it, which is another's for good."""
+    """Frees the numbers of a file that the desk did not take. If the inbox gives numbers, it frees none below a final
+    number of another file."""
     ledger = inbox.ledger
     last = ledger.last_final() if inbox.settings.gives_number(file.ending) else 0
     for row in ledger.messages_of(file) if not ledger.is_final(file) else []:
@@ -159,8 +159,8 @@ def give_back(inbox: Inbox, file: File) -> None:
 
 
 def post_unwaived(inbox: Inbox, gaps: Gaps) -> None:
-    """Posts again what came to a number whose waiver was taken back: that a desk from before has it again shows in nothing
-    else."""
+    """Posts again what came to a number whose waiver was taken back: nothing else shows that an older desk has the
+    waiver again."""
     ledger, unwaived = inbox.ledger, inbox.ledger.waived(Decision.UNWAIVE)
     for row in ledger.messages("state IN ('held', 'applied') AND text IS NOT NULL AND number >= ?", gaps.first):
         if row.number not in unwaived or gaps.lacks(row.number) or not ledger.stands(row.number):
@@ -173,7 +173,7 @@ def post_unwaived(inbox: Inbox, gaps: Gaps) -> None:
 
 
 def begin_again(inbox: Inbox, file: File) -> None:
-    """Has all messages of a refused file posted again, of which the desk has taken one, or may take another one now."""
+    """Posts all messages of a refused file again, if the desk took one of them, or may take one now."""
     with inbox.ledger.step():
         for row in inbox.ledger.messages_of(file):
             if row.state == State.REFUSED:
@@ -182,8 +182,8 @@ def begin_again(inbox: Inbox, file: File) -> None:
 
 
 def settle_rejected(inbox: Inbox, gaps: Gaps) -> None:
-    """What a person refused, or a full file replaced, and the desk lacks stands nowhere any more; where the inbox gives the
-    numbers, these are waived, so that nothing waits for them."""
+    """If a person refused a file, or a full file replaced it, and the desk lacks it, its numbers are free. If the inbox
+    gives numbers, they are waived, so that nothing waits for them."""
     ledger = inbox.ledger
     waived = "SELECT number FROM decision WHERE what = 'waive' AND decision.file = message.file"
     is_over = f"state = 'returned' OR state = 'refused' AND number IN ({waived})"
@@ -201,8 +201,8 @@ def settle_rejected(inbox: Inbox, gaps: Gaps) -> None:
 
 
 def waive(inbox: Inbox, gaps: Gaps) -> Gaps:
-    """Waives at the desk what was decided and it lacks. A file that came to a number of these, and was not taken before,
-    does not get it at a desk that was restored."""
+    """Waives the decided numbers that the desk lacks. A file that came to such a number, and was not taken before, does
+    not get it at a restored desk."""
     ledger, taken = inbox.ledger, (State.HELD, State.APPLIED)
     lacking = [number for number in ledger.waived() if gaps.lacks(number) and not ledger.stands(number, taken)]
     if not lacking:

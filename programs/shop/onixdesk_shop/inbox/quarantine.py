@@ -1,5 +1,5 @@
-"""Whether a file looks wrong. Nothing here reckons a price: the desk's answers are compared with those of a desk that has
-nothing but the file's records."""
+"""Whether a file looks wrong. It computes no price: it compares the desk's answers with those of a desk that has only
+the file's records."""
 
 from __future__ import annotations
 
@@ -12,10 +12,10 @@ from onixdesk_shop.inbox.context import Inbox
 if TYPE_CHECKING:
     from onixdesk_shop.inbox.judging import Feed
 
-# Of fewer nothing is said.
+# Smaller counts are ignored.
 LEAST = 10
 
-# How far a number may be ahead of what the series waits for, in the sender's numbers.
+# How far a number may be ahead of the next one, in the sender's numbers.
 MOST_AHEAD = 100
 
 
@@ -24,7 +24,7 @@ class Quarantine(Exception):
 
 
 def look(inbox: Inbox, feed: Feed, gaps: Gaps) -> None:
-    """Quarantine where a person has to decide on a file that nobody let in yet."""
+    """Raises Quarantine if a person has to decide on a file that nobody has let in."""
     if inbox.is_let_in(feed.file):
         return
     judge_numbers(inbox, feed, gaps)
@@ -54,14 +54,14 @@ def judge_products(feed: Feed) -> None:
     is_feed = feed.file.ending != ".csv"
     emptied = feed.said.count("Product emptied", "Product left out") if is_feed else feed.bare
     total = feed.products + feed.said.count("Product left out")
-    # The converter does not say which are both: these count twice.
+    # The converter does not say which products are both: these count twice.
     count = emptied + feed.said.wrong
     if count >= LEAST and count * 2 > total:
         raise Quarantine(f"{emptied} of {total} products are emptied, and {feed.said.wrong} wrong")
 
 
 def judge_findings(inbox: Inbox, found: Findings, known: int) -> None:
-    """Quarantine where too many are wrong, or lose what they have; what was looked at stands for the file."""
+    """Raises Quarantine if too many articles are wrong, or lose what they have; the compared ones stand for all."""
     total = found.looked_at
     for names, least, what in (
         (found.jumped, 0.2, "have a price more than twice or less than half of the desk's, or a new reference"),
@@ -73,6 +73,6 @@ def judge_findings(inbox: Inbox, found: Findings, known: int) -> None:
     articles = max(inbox.ledger.articles(), known)
     if lost >= LEAST and lost * 5 > articles:
         raise Quarantine(
-            f"{lost} of {articles} articles would lose their price, be deleted or be chosen no more:"
+            f"{lost} of {articles} articles would lose their price, be deleted or no longer be chosen:"
             f" {', '.join(found.lost[:3])}"
         )

@@ -1,4 +1,4 @@
-"""How an inbox stands, for whoever asks."""
+"""Reports how an inbox stands."""
 
 import re
 from collections.abc import Iterator
@@ -49,14 +49,14 @@ def lines(inbox: Inbox) -> Iterator[str]:
 
 
 def of_the_week(inbox: Inbox) -> Iterator[str]:
-    """The last files that were taken, and how much of what the series had was deleted in seven days."""
+    """The last files that were taken, and how many articles were deleted in seven days."""
     for file in inbox.ledger.files("state = 'applied'")[-LAST_FILES:]:
         yield f"{file.mark}: applied {moment(file.at)}; {token(file.name)}"
     yield f"{count(inbox.ledger.value(DELETED, int(inbox.machine.now()) - WEEK), 'article')} deleted in seven days"
 
 
 def not_alike(inbox: Inbox, gaps: Gaps | None) -> Iterator[str]:
-    """What the agreement, desk.json or the terms have otherwise than the settings. The table of terms may be a wrong one."""
+    """Where agreement, desk.json or terms differ from the settings."""
     settings, shop = inbox.settings, inbox.shop
     if gaps:
         if inbox.ledger.files("state = 'refused' AND why = ?", REASONS["unknown-series"]):
@@ -75,7 +75,7 @@ def not_alike(inbox: Inbox, gaps: Gaps | None) -> Iterator[str]:
 
 
 def not_named(inbox: Inbox) -> Iterator[str]:
-    """What the last full files did not name: all that a file has named where none is full."""
+    """What the last full files did not name; without full files, what any file named."""
     last = inbox.ledger.full_files()[: max(1, inbox.settings.full)]
     if not last:
         return
@@ -87,7 +87,7 @@ def not_named(inbox: Inbox) -> Iterator[str]:
 
 
 def not_verified(inbox: Inbox) -> Iterator[str]:
-    """Whether its files are fetched from a server that nobody verifies."""
+    """Whether its files are fetched from an unverified server."""
     path = FETCH_SETTINGS / f"{inbox.series}.env"
     if inbox.machine.exists(path) and read_lines(inbox.machine, path).get("UNVERIFIED", (0, ""))[1] == "yes":
         yield f"UNVERIFIED=yes in {path}: anybody on the way to that server can change a feed"

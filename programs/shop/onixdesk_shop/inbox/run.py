@@ -1,4 +1,4 @@
-"""One run of an inbox: takes in, posts what is to be posted, judges what is new, and says how it stands."""
+"""One run of an inbox: takes files in, posts what is due, judges new files, and reports how it stands."""
 
 from onixdesk_shop.desk import Gaps, NoDesk
 from onixdesk_shop.faults import FAILED
@@ -11,7 +11,7 @@ from onixdesk_shop.lines import ERROR, WARNING
 
 
 def run(inbox: Inbox) -> int:
-    """The status of a run. SERIES.json is written by each, also by one that a fault ends."""
+    """Runs, and returns the status. Each run writes SERIES.json, even if a fault ends it."""
     gaps: Gaps | None = None
     try:
         intake.take_in(inbox)
@@ -23,7 +23,7 @@ def run(inbox: Inbox) -> int:
         if (files := inbox.ledger.files("1")) and not inbox.ledger.is_told("not agreed"):
             inbox.tell_once("not agreed", ERROR, f"{agreement(inbox, files[0])}; {fault}, and its files wait")
     except NoDesk as fault:
-        # That a desk does not run is its own unit's error; one that answers at one place alone is this program's.
+        # A desk that does not run is an error of its own unit; one that answers at one address only is this program's.
         inbox.tell_once("no desk", ERROR if gaps else WARNING, f"files wait: {fault}")
     finally:
         series_json.write(inbox, gaps)
@@ -55,8 +55,8 @@ def work(inbox: Inbox, gaps: Gaps) -> Gaps:
 
 
 def next_file(inbox: Inbox, seen: set[int]) -> File | None:
-    """The first new file that this run has not judged. Behind one that is quarantined files wait; but of a wholesaler whose
-    numbers are the inbox's own a newer full file may take its place."""
+    """The first new file that this run has not judged. Files wait behind one in quarantine; but if the inbox gives
+    numbers, a newer full file may take its place."""
     ledger = inbox.ledger
     stopped = ledger.files("state = ?", State.QUARANTINED)
     first = min(((file.time, file.name, file.id) for file in stopped), default=None)
@@ -71,7 +71,7 @@ def next_file(inbox: Inbox, seen: set[int]) -> File | None:
 
 
 def tell_waiting(inbox: Inbox, gaps: Gaps | None) -> None:
-    """Tells once that a series waits for a number for a day, and that nothing was heard for days."""
+    """Tells once that a series has waited a day for a number, and that nothing was heard for days."""
     since = inbox.ledger.value("SELECT min(at) FROM message WHERE state = 'held'")
     if gaps and since is not None and inbox.machine.now() - since > DAY:
         command = f"onixdesk-inbox waive {inbox.series} {gaps.next} (or have it sent again)"

@@ -1,4 +1,4 @@
-"""SERIES.json: what the buyers' page may know of an inbox. It has no name and no text of others."""
+"""SERIES.json: what the buyers' page may know of an inbox. It has no text from others."""
 
 import json
 from typing import Any
@@ -7,7 +7,7 @@ from onixdesk_shop.desk import Gaps
 from onixdesk_shop.inbox.context import Inbox
 from onixdesk_shop.settings import NEXT
 
-# For how long the price types of messages are told.
+# How long the price types of messages are listed.
 KINDS_SECONDS = 120 * 86_400
 
 

@@ -1,4 +1,4 @@
-"""What the ledger knows of a number, an ISBN or a file, and by which message a price came."""
+"""Shows what the ledger knows of a number, an ISBN or a file, and which message set a price."""
 
 import json
 import shlex
@@ -52,7 +52,7 @@ def of_number(inbox: Inbox, number: int) -> list[str]:
 
 
 def of_isbn(inbox: Inbox, isbn: str) -> list[str]:
-    """The records with that ISBN, by which message each was named last, and what that says."""
+    """The records with that ISBN, the message that named each last, and what it says."""
     query = "SELECT reference, number, deleted FROM reference WHERE ' ' || isbns || ' ' LIKE '% ' || ? || ' %'"
     lines = []
     for reference, number, deleted in inbox.ledger.rows(f"{query} ORDER BY number", isbn):

@@ -1,5 +1,5 @@
-"""Titles of books, for the buyers' page alone: what a feed said last, in a file for all ISBNs that begin with the same
-digits. An object has a list for each ISBN, and that an entry for each series, the last one taken first."""
+"""Titles of books, for the buyers' page alone: what feeds said last, in a file for all ISBNs that begin with the same
+digits. An object has a list for each ISBN; the list has an entry for each series, the last one taken first."""
 
 import json
 from collections import defaultdict
@@ -11,13 +11,13 @@ from onixdesk_shop.inbox.context import Inbox
 from onixdesk_shop.inbox.ledger import File
 from onixdesk_shop.lines import WARNING
 
-# The page fetches a file for all ISBNs with so many digits alike; the folders have five.
+# The page fetches a file for all ISBNs that share so many digits; folders share five.
 DIGITS, FOLDER_DIGITS = 8, 5
 
-# By this file the page knows that titles are kept.
+# This file tells the page that titles are kept.
 MARK, FOLDER = "titles.json", "titles"
 
-# Series, number and second of the message, and, unless that deletes it, title, subtitle, contributors, publisher.
+# Series, number and second of the message, and, unless it deletes the title, title, subtitle, contributors, publisher.
 Entry = list[Any]
 
 
@@ -43,7 +43,7 @@ def entries_of(inbox: Inbox, file: File) -> dict[str, Entry]:
 
 
 def write(inbox: Inbox, entries: dict[str, Entry]) -> None:
-    """Replaces the files of these ISBNs, in which other inboxes write too."""
+    """Replaces the files of these ISBNs, which other inboxes write too."""
     machine, folder = inbox.machine, inbox.places.state / FOLDER
     machine.make_folder(folder, 0o755)
     by_digits: dict[str, dict[str, Entry]] = defaultdict(dict)
@@ -57,7 +57,7 @@ def write(inbox: Inbox, entries: dict[str, Entry]) -> None:
             path = folder / digits[:FOLDER_DIGITS] / f"{digits}.json"
             kept: dict[str, list[Entry]] = machine.read_json(path)
             for isbn, entry in some.items():
-                # Of a series the message of the greatest number counts.
+                # Within a series, the message with the greatest number counts.
                 of_series = {each[0]: each for each in kept.get(isbn, [])}
                 of_series[inbox.series] = max(entry, of_series.get(inbox.series, entry), key=lambda each: int(each[1]))
                 kept[isbn] = sorted(of_series.values(), key=lambda each: int(each[2]), reverse=True)

@@ -1,4 +1,4 @@
-"""What is said of a sample: what is in it, what follows from that, and what to paste."""
+"""What onixdesk-look says of a sample: its contents, what follows from them, and what to paste."""
 
 import json
 import re
@@ -10,13 +10,13 @@ from onixdesk_shop.lines import count, cut
 from onixdesk_shop.looks.sample import Code, Sample, agreement
 from onixdesk_shop.messages import UPDATE
 
-# A feed may grow, and its number of parts is agreed once.
+# A feed may grow, but its number of parts is agreed once.
 TIMES, ALMOST_FULL = 4, 1_048_576
 
 # How many rows of a section are shown.
 MOST_ROWS = 20
 
-# A number that is a date makes a gap of each day without a feed.
+# A number that is a date makes a gap on each day without a feed.
 is_date = re.compile(r"(?:20)?[0-9]{2}(?:0[1-9]|1[0-2])(?:0[1-9]|[12][0-9]|3[01])").fullmatch
 
 # The types of prices that readers pay.
@@ -43,13 +43,13 @@ def counted(rows: Mapping[str, int]) -> Iterator[str]:
 
 
 def section_of(title: str, lines: Iterable[str]) -> Iterator[str]:
-    """Nothing where there are no lines."""
+    """Writes nothing if there are no lines."""
     found = [*lines]
     yield from [f"\n{title}", *(f"  {line}" for line in found)] if found else []
 
 
 def of_feed(sample: Sample) -> Iterator[str]:
-    """What is in it."""
+    """The contents."""
     header = sample.header
     yield f"sender: {','.join(header.sender)}"
     yield f"addressee: {','.join(header.addressee).strip(',') or 'none'}"
@@ -69,7 +69,7 @@ def in_words(code: Code) -> str:
 
 
 def remarks(sample: Sample, net: str) -> Iterator[str]:
-    """What follows from that, for a shop that pays prices of the type `net`."""
+    """What follows, for a shop that pays prices of the type `net`."""
     yield from sample.remarks
     if updates := sample.types[UPDATE]:
         yield f"{count(updates, 'update')} of products: ask for a full feed first, since a desk drops those it has not"
@@ -87,8 +87,8 @@ def needs_terms(sample: Sample, net: str) -> bool:
 
 
 def terms_to_paste(sample: Sample, net: str) -> str:
-    """A table with a term for each code of retail prices, first for those of a scheme, since the first that fits counts.
-    The converter takes it once each percent is written."""
+    """A table with a term for each discount code, those with a scheme first, since the first term that fits counts. The
+    converter takes it once each percent is filled in."""
     found = []
     for kind, code, scheme in sorted(sample.codes, key=lambda code: not code[2]):
         if is_retail(kind):

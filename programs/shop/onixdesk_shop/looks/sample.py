@@ -1,4 +1,4 @@
-"""A sample of a feed: converted as an inbox would, with what is counted in it."""
+"""A sample of a feed, converted as an inbox would, and counted."""
 
 import itertools
 import json
@@ -15,17 +15,17 @@ from onixdesk_shop.feeds import Refusal, Said, convert, read_by
 from onixdesk_shop.machine import Machine
 from onixdesk_shop.messages import Header, header_of, products_of
 
-# For what the converter refuses a feed, and the word that lets it through.
+# The converter's refusals, and the option that avoids each.
 NUMBER, WRONG = "NUMBER=next gives one", "--wrong all in WORDS"
 PARTS = re.compile(r"the message needs ([0-9]+) parts")
 
-# A code with the type of the prices that have it, and the scheme that it is of.
+# A code, its scheme, and the type of the prices that have it.
 Code = tuple[str, str, str]
 
 
 @dataclass
 class Sample:
-    """The messages, what the converter said of them, and why it wanted which more words; by their counts products by
+    """The messages, what the converter said, and why it needed which more options; counts of products by
     NotificationType, prices by type and currency, suppliers by SupplyDetails, and discount codes by prices."""
 
     messages: list[bytes]
@@ -48,7 +48,7 @@ class Sample:
 
     @property
     def number(self) -> int | None:
-        """That of the feed, by the one of its first part; none where it has none."""
+        """The feed's number, by that of its first part; None if it has none."""
         return None if "--number" in self.words else ((self.header.number or 1) - 1) // self.parts + 1
 
     def count(self) -> None:
@@ -68,15 +68,15 @@ class Sample:
 
 
 def supplier_in(supply: list[str]) -> str:
-    """The supplier of a SupplyDetail: its identifier, its name, and its role."""
+    """The supplier of a SupplyDetail: identifier, name and role."""
     return " ".join(filter(None, [",".join(supply[2:4]).strip(","), supply[4], f"(SupplierRole {supply[1]})"]))
 
 
 def converted(
     machine: Machine, program: Path, file: Path, words: tuple[str, ...], terms: bytes | None, work: Path
 ) -> Sample:
-    """A feed under number 1 where it has none, in as many parts as it needs, with all of its products. Refusal where that
-    cannot be."""
+    """Converts a feed with all its products, as number 1 if it has none, in as many parts as it needs. Raises Refusal
+    if that fails."""
     more: dict[str, str] = {}
     remarks: list[str] = []
     while True:
@@ -93,19 +93,19 @@ def converted(
 
 
 def word_for(refusal: str) -> dict[str, str]:
-    """What lets a feed through that is refused so."""
+    """The option that avoids this refusal."""
     if needed := PARTS.search(refusal):
         return {"--parts": needed[1]}
     return {"--number": "1"} if NUMBER in refusal else {"--wrong": "all"} if WRONG in refusal else {}
 
 
 def agreement(series: str, header: Header, first: int) -> str:
-    """The record by which a series with that sender and addressee is agreed."""
+    """The record that agrees on a series with that sender and addressee."""
     return f"Agree,{series},{','.join(header.sender)},{','.join(header.addressee)},{first}"
 
 
 def count_priced(desk: DeskFile, sample: Sample, question: str) -> int:
-    """Of how many articles a desk over these files gives a price, once it has taken the messages."""
+    """For how many articles a desk over these files gives a price, once it took the messages."""
     agreed = f"{agreement('sample', sample.header, sample.header.number or 1)}\n".encode()
     lines = (line for message in sample.messages for line in message.splitlines(keepends=True))
     send(desk, itertools.chain([agreed], lines))

@@ -31,7 +31,7 @@ def command_line() -> argparse.ArgumentParser:
 def work(machine: Machine, options: argparse.Namespace) -> int:
     rules = []
     if options.rules:
-        # The desk's own program says whether it takes them.
+        # The desk's own program checks them.
         machine.run([program_of(options.program), "rules", options.rules])
         rules = rules_of(machine.read(options.rules))
     with copied(machine, options.file) as (copy, taken), machine.reading(copy) as source:

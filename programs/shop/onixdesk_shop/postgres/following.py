@@ -1,5 +1,5 @@
-"""What psql is told, so that the tables in PostgreSQL have the rows of a copy of the desk's file: all anew, in one
-transaction, in which others see those of before."""
+"""The script for psql that gives the tables in PostgreSQL the rows of a copy of the desk: all anew, in one transaction,
+while others see the old ones."""
 
 import hashlib
 import itertools
@@ -11,11 +11,11 @@ from typing import Any
 
 from onixdesk_shop.faults import Fault
 
-# The version of the tables that the follower knows, and the tables.
+# The version of the tables that the follower knows, and these tables.
 VERSION = 2
 TABLES = ("meta", "series", "held", "applied", "record", "article", "offer", "price", "price_minimum")
 
-# What PostgreSQL's COPY reads a value from: \N is none.
+# How PostgreSQL's COPY reads a value: \N is NULL.
 ESCAPES = [("\\", "'\\\\'"), ("\t", "'\\t'"), ("\n", "'\\n'"), ("\r", "'\\r'")]
 
 FOLDER = Path(__file__).resolve().parent
@@ -23,7 +23,7 @@ BEGIN, TABLE, KEYS, FUNCTIONS = (
     FOLDER.joinpath(f"{name}.sql").read_text(encoding="utf-8") for name in ("begin", "tables", "keys", "functions")
 )
 
-# What the schema is commented with, by which the follower knows its own.
+# The comment of the schema, by which the follower recognizes its own.
 MARK = f"Kept by desk-follow of onixdesk, layout {hashlib.sha256((TABLE + KEYS + FUNCTIONS).encode()).hexdigest()[:16]}"
 
 
@@ -48,36 +48,36 @@ def lines_of(source: sqlite3.Connection, table: str) -> Iterator[bytes]:
 
 
 def call_of(database: str) -> list[str]:
-    """The words by which psql reads the script."""
+    """The command line of psql."""
     words = "psql --no-psqlrc --quiet --set=ON_ERROR_STOP=1 --set=VERBOSITY=terse".split()
     return [*words, f"--set=mark={MARK}", f"--dbname={database}"]
 
 
 def where_new(text: str) -> str:
-    """What is done only where there was no schema."""
+    """What is done only if there was no schema."""
     return f"\\if :is_there\n\\else\n{text}\n\\endif\n"
 
 
 def rows_of(table: str, lines: Iterator[bytes]) -> Iterator[bytes]:
-    """A table gets the rows of these lines."""
+    """Gives a table the rows of these lines."""
     yield f"DELETE FROM desk.{table}; COPY desk.{table} FROM STDIN;\n".encode()
     yield from lines
     yield b"\\.\n"
 
 
 def rule_line(number: int, rule: dict[str, Any]) -> bytes:
-    """The greatest amount is in thousandths, or nothing."""
+    """The greatest amount, in thousandths, or empty."""
     greatest = str(int(Decimal(rule["max"]) * 1000)) if "max" in rule else "\\N"
     return "\t".join([str(number), rule["series"], f"{{{','.join(rule['codes'])}}}", f"{greatest}\n"]).encode()
 
 
 def script(source: sqlite3.Connection, rules: list[dict[str, Any]], moment: int) -> Iterator[bytes]:
-    """Brings the schema after the copy, which is of that moment, in nanoseconds since 1970."""
+    """Replaces the schema's rows by those of the copy, whose moment is in nanoseconds since 1970."""
     yield f"{BEGIN}{where_new(f'CREATE SCHEMA desk;{TABLE}')}".encode()
     for table in TABLES:
         yield from rows_of(table, lines_of(source, table))
     yield from rows_of("rule", map(rule_line, itertools.count(1), rules))
     yield f"DELETE FROM desk.moment; INSERT INTO desk.moment (taken) VALUES (to_timestamp({moment / 1e9}));\n".encode()
-    # Keys are made once the rows are there, which is quicker.
+    # Keys are made after the rows, which is quicker.
     yield where_new(f"{KEYS}{FUNCTIONS}COMMENT ON SCHEMA desk IS :'mark';").encode()
     yield f"ANALYZE {', '.join(f'desk.{table}' for table in TABLES)}; COMMIT;\n".encode()

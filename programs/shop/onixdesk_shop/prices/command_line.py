@@ -28,7 +28,7 @@ ARTICLES = """\
 SELECT DISTINCT id_value FROM article JOIN offer USING (series, reference)
 WHERE id_type IN ('03', '15') AND length(id_value) = 13 AND id_value NOT GLOB '*[^0-9]*' ORDER BY id_value"""
 
-# So many articles are asked about at once, in a text that a batch takes.
+# How many articles one batch asks about.
 AT_ONCE = 5_000
 
 
@@ -43,7 +43,7 @@ def command_line() -> argparse.ArgumentParser:
 
 
 def asked(desk: DeskFile, day: str, shop: Shop, isbns: list[str]) -> Iterator[tuple[str, list[Records]]]:
-    """Each article with its answers. Fault if some are missing or refused."""
+    """Each article with its answers; raises Fault if one is missing or refused."""
     count = 3 if shop.recommended_type else 2
     for start in range(0, len(isbns), AT_ONCE):
         some = isbns[start : start + AT_ONCE]
@@ -74,5 +74,5 @@ def work(machine: Machine, options: argparse.Namespace) -> int:
         machine.write_whole(options.folder / BEFORE, machine.read(options.folder / FILE), 0o640)
     machine.write_whole(options.folder / FILE, "".join(lines).encode(), 0o640)
     if isbns and not chosen:
-        machine.tell(WARNING, f"of {len(isbns)} articles nothing is chosen, and none has a price (PRICES.md)")
+        machine.tell(WARNING, f"nothing is chosen for any of {len(isbns)} articles, so none has a price (PRICES.md)")
     return DONE

@@ -1,4 +1,4 @@
-"""The file that is written, as desk.json has it: its columns, and the form that orders have too (docs/PAGE.md)."""
+"""The form of the file of prices, from desk.json: its columns, and what orders have too (docs/PAGE.md)."""
 
 import re
 from dataclasses import dataclass
@@ -13,19 +13,19 @@ AMOUNTS = "price", "rrp"
 
 BLANKS = re.compile("[\x00-\x1f\x7f-\x9f\u2028\u2029]+")
 
-# Where a spreadsheet would read a formula, full width too: in a cell, and in what is one where it cuts at another sign.
+# Where a spreadsheet would read a formula: in a cell, or in a part that another separator would make a cell.
 FORMULA = re.compile(r"(?:^|(?<=[,;|]))(?=[\s\ufeff'\"]*[=+\-@\uff1d\uff0b\uff0d\uff20])")
 
 
 def cell_of(text: str) -> str:
-    """A text as a cell: on one line, in quotation marks if some program could cut at a sign of it, and never a formula."""
+    """A text as a cell: on one line, in quotation marks if some program might split it, and never a formula."""
     safe = FORMULA.sub("'", BLANKS.sub(" ", text).strip())
     return '"' + safe.replace('"', '""') + '"' if re.search('[",;|]', safe) else safe
 
 
 @dataclass(frozen=True)
 class Form:
-    """The keys of `price_file`. `heading` has what the first line has, and nothing if there is none."""
+    """The keys of `price_file`. `heading` has the first line, or nothing."""
 
     columns: list[str]
     separator: str
@@ -47,7 +47,7 @@ class Form:
 
 
 def form_of(shop: Shop) -> Form:
-    """The form that desk.json has, all columns without one. BadCall, which names the first key that is wrong."""
+    """The form in desk.json, or all columns without one; raises BadCall with the first wrong key."""
     given = shop.given.get("price_file", {})
     separator = ";" if given.get("decimal") == "," else ","
     form: dict[str, Any] = {"columns": COLUMNS, "heading": True, "separator": separator, "decimal": "."}

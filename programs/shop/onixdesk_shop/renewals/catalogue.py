@@ -1,4 +1,4 @@
-"""The catalogue of a series in a desk's tables, as the records of messages that make it."""
+"""The catalogue of a series in a desk's tables, as the messages that make it."""
 
 import itertools
 import sqlite3
@@ -11,14 +11,14 @@ from onixdesk_shop.faults import Failed
 from onixdesk_shop.lines import token
 from onixdesk_shop.messages import text_of
 
-# NotificationType of a record that is put whole.
+# The NotificationType that replaces a whole record.
 CONFIRMED = "03"
 
-# What a message may have, with its first and last record, and the room for these two.
+# The limits of a message with its first and last record, and the room for these two.
 MOST_RECORDS = 20_000
 ROOM = 8_192
 
-# Days are counted from there.
+# Days are counted from here.
 EPOCH = date(1970, 1, 1).toordinal()
 
 REFERENCES = "SELECT reference FROM record WHERE series = ? ORDER BY reference"
@@ -52,7 +52,7 @@ def prices_by_offer(rows: Iterable[tuple[Any, ...]]) -> dict[int, list[list[str]
 
 
 def product(database: sqlite3.Connection, *record: str) -> list[list[str]]:
-    """The records of the product that puts a record, of a series and by its reference, as it is."""
+    """The records of the product that makes a record, of a series and reference, as it is."""
     articles, offers, prices = (database.execute(query, record) for query in (ARTICLES, OFFERS, PRICES))
     rows = [["Product", record[1], CONFIRMED, *itertools.chain.from_iterable(articles)]]
     of_offers, before = prices_by_offer(prices), None
@@ -65,7 +65,7 @@ def product(database: sqlite3.Connection, *record: str) -> list[list[str]]:
 
 
 def contents_in(database: sqlite3.Connection, series: str) -> Iterator[str]:
-    """A catalogue as the contents of as few messages as can be, of one at least. Failed if none takes one of its records."""
+    """A catalogue as the contents of as few messages as possible, at least one; Failed if a record fits into none."""
     pieces, count, size = [""], 0, 0
     for (reference,) in database.execute(REFERENCES, [series]):
         rows = product(database, series, reference)

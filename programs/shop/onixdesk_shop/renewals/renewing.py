@@ -1,4 +1,4 @@
-"""One renewal: a restore of a desk that is made anew of a copy of now, and with which numbers that begins."""
+"""One renewal: makes a new desk of a copy, with its new first numbers, and restores it."""
 
 import itertools
 import sqlite3
@@ -21,11 +21,11 @@ GIVEN_UP = """\
 given up are the answers to and the contents of these messages, with their NotificationTypes and counts, and the waivers
 below the next numbers; corrections of the desk's text reach back to the new first numbers"""
 
-# Columns by tables: what a renewed desk has as the one before.
+# The columns of tables that the renewed desk has as the old one.
 OF_SERIES = "name, sender_type, sender_value, addressee_type, addressee_value, next_number"
 RENEWED = {"series": OF_SERIES} | dict.fromkeys(("held", "record", "article", "offer", "price", "price_minimum"), "*")
 
-# The contents of a number that was waived.
+# The contents of a waived number.
 WAIVED = "waived"
 SERIES = """\
 SELECT name, sender_type, sender_value, addressee_type, addressee_value, first_number, next_number
@@ -35,7 +35,7 @@ HELD = "SELECT number, contents FROM held WHERE series = ? ORDER BY number"
 
 @dataclass(frozen=True)
 class Renewal:
-    """A series, with its first and next number, and how many messages its catalogue takes before the next one."""
+    """A series, its first and next number, and how many messages its catalogue takes before the next one."""
 
     series: str
     parties: str
@@ -62,7 +62,7 @@ class Renewal:
 
 
 def renewals_in(copy: sqlite3.Connection) -> list[Renewal]:
-    """All series of a copy. Failed, which names those that have too few numbers for their catalogue."""
+    """All series of a copy; raises Failed if some have too few numbers for their catalogue."""
     found, left = [], []
     for series, *parties, first, after in copy.execute(SERIES).fetchall():
         messages = sum(1 for _ in contents_in(copy, series)) if first < after else 0
@@ -94,7 +94,7 @@ class Renewing(Restore):
     remedy = "run it again"
 
     def lay_out(self) -> None:
-        """Makes the new desk of a copy, and compares their rows, on which each answer about articles hangs."""
+        """Makes the new desk of a copy, and compares the rows that answers about articles depend on."""
         machine, folder = self.machine, self.options.copy
         self.work.begin()
         machine.remove_tree(folder)
@@ -110,7 +110,7 @@ class Renewing(Restore):
         self.said = [*map(str, renewals), GIVEN_UP]
 
     def stop(self) -> None:
-        """Stops all once each message has its answer: below the new first numbers none would get one."""
+        """Stops everything once each message has its answer: below the new first numbers none would get one."""
         self.wait_for_answers()
         super().stop()
         if any(inbox.has_unanswered() for inbox in self.inboxes()):
@@ -127,7 +127,7 @@ class Renewing(Restore):
 
 
 def difference(machine: Machine, one: Path, other: Path) -> str:
-    """What a table has in one and not in the other; nothing where they are alike."""
+    """What a table has in one and not in the other; empty if they are the same."""
     with machine.reading(other), machine.reading(one) as connection:
         connection.execute("ATTACH ? AS other", [f"{other.resolve().as_uri()}?mode=ro"])
         for table, columns in RENEWED.items():

@@ -47,7 +47,7 @@ def work(machine: Machine, options: argparse.Namespace) -> int:
 
 
 def put(machine: Machine, run: Restore, is_told: bool) -> int:
-    """Puts the desk of a run into place, or ends what a run began that was killed; the status."""
+    """Puts the desk of a run into place, or finishes what a killed run began; returns the status."""
     folder = run.options.db.parent
     with machine.lock(folder, waits=False) as is_alone:
         if not is_alone:
@@ -62,7 +62,7 @@ def put(machine: Machine, run: Restore, is_told: bool) -> int:
                 raise Failed("nobody said yes, so the desk is as it was")
             run.replace()
         finally:
-            # What ran runs again, whatever ends this.
+            # Whatever ends this, what ran runs again.
             run.work.finish(run.units)
         return status_of(machine, run)
 

@@ -1,4 +1,4 @@
-"""The inboxes at a restore: what each posts again to the desk that is put into place, and when that is done."""
+"""The inboxes at a restore: what each posts again to the restored desk, and when it is done."""
 
 from contextlib import closing
 from dataclasses import dataclass, field
@@ -13,14 +13,14 @@ from onixdesk_shop.places import BATCHES, LEDGER
 from onixdesk_shop.settings import Settings, read_settings
 from onixdesk_shop.units import BEGIN
 
-# How long a desk that starts is waited for, and an inbox that posts nothing, in seconds.
+# How long to wait for a desk that starts, and for an inbox that posts nothing, in seconds.
 PATIENCE = 600
 PAUSE = 2.0
 
 
 @dataclass
 class Again:
-    """What an inbox posts again: the numbers, those of them whose texts are gone, and a line for each file."""
+    """What an inbox posts again: the numbers, those whose texts are gone, and a line for each file."""
 
     numbers: list[int] = field(default_factory=list)
     gone: list[int] = field(default_factory=list)
@@ -29,7 +29,7 @@ class Again:
 
 
 class Inbox:
-    """The inbox of a series, with its ledger or one of a copy."""
+    """The inbox of a series, with its ledger or one from a copy."""
 
     def __init__(self, machine: Machine, series: str, ledger: Path, settings: Path) -> None:
         self.machine = machine
@@ -38,7 +38,7 @@ class Inbox:
         self.conf = settings / f"{series}.conf"
 
     def settings(self) -> Settings | None:
-        """Nothing where they are missing or wrong, which is told."""
+        """None if they are missing or wrong, which is reported."""
         try:
             return read_settings(self.machine, self.conf)
         except BadCall as fault:
@@ -63,7 +63,7 @@ class Inbox:
         return found
 
     def agreement(self) -> str:
-        """The record by which the series is agreed, as far as it is known here."""
+        """The record that agrees on the series, as far as it is known here."""
         settings = self.settings()
         with closing(Ledger(self.machine, self.file)) as ledger:
             return ledger.agreement(self.series, settings.sender if settings else ("", ""))
@@ -73,7 +73,7 @@ class Inbox:
         return any(f"onixdesk-inbox@{self.series}{kind}" in units for kind in BEGIN)
 
     def has_unanswered(self) -> bool:
-        """Whether the desk has not said yet what it makes of a message."""
+        """Whether a message has no answer of the desk yet."""
         with closing(Ledger(self.machine, self.file)) as ledger:
             return bool(ledger.value("SELECT count(*) FROM message WHERE state IN ('ready', 'posted')"))
 
@@ -85,12 +85,12 @@ class Inbox:
 
 
 def inboxes_in(machine: Machine, folder: Path, settings: Path) -> list[Inbox]:
-    """Those that have a ledger."""
+    """The inboxes that have a ledger."""
     return [Inbox(machine, path.parent.name, path, settings) for path in machine.paths(folder, f"*/{LEDGER}")]
 
 
 def wait_for_inbox(inbox: Inbox, numbers: list[int], goes_on: bool) -> bool:
-    """Until the desk has these numbers again, or the inbox does not go on. Whether it has them."""
+    """Waits until the desk has these numbers again, or the inbox stops; returns whether it has them."""
     machine, settings = inbox.machine, inbox.settings()
     if settings is None:
         return False
@@ -118,7 +118,7 @@ def wait_for_inbox(inbox: Inbox, numbers: list[int], goes_on: bool) -> bool:
 
 
 def wait_for_all(machine: Machine, inboxes: list[Inbox], planned: dict[str, list[int]], units: list[str]) -> bool:
-    """Until the desk answers, and has again what the inboxes post, as far as these units run them. Whether it has all."""
+    """Waits until the desk answers, and has again what the inboxes of these units post; returns whether it has all."""
     try:
         if not inboxes:
             Desk(machine, BATCHES, PATIENCE).gaps("north")

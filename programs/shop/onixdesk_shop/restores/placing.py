@@ -1,7 +1,7 @@
-"""The folder beside a desk in which another one is made ready, and how that gets the desk's place.
+"""The folder beside a desk where a new desk is prepared, and how that replaces the old one.
 
-It has `units`, what is to be started again; `new`, which is being made, and in place of that `ready.SECOND` once it is
-whole and on the disk. What a run that was killed has left there tells the next one how far it was.
+It has `units`, the units to start again; `new`, the desk in preparation; and instead of that `ready.SECOND`, once it is
+whole and on the disk. If a run was killed, the next one sees there how far it came.
 """
 
 from pathlib import Path
@@ -25,22 +25,22 @@ class Work:
         self.is_started = False
 
     def begin(self) -> None:
-        """An empty folder for a new desk."""
+        """Makes an empty folder for a new desk."""
         self.machine.make_folder(self.folder)
         self.machine.remove_tree(self.new.parent)
         self.machine.make_folder(self.new.parent)
 
     def ready(self) -> Path | None:
-        """The folder of a new desk that is to get its place, or has got it."""
+        """The folder of a new desk that is to replace the old one, or has replaced it."""
         return next(iter(self.machine.paths(self.folder, f"{READY}*")), None)
 
     def before(self, second: str) -> Path:
-        """The name of what stood there before that second."""
+        """The name of the desk that was there before that second."""
         return self.database.with_name(f"{self.database.name}.{second}")
 
     def make_ready(self) -> None:
-        """The new files are on the disk, for the owner of the folder. There is a log too, so that a run that goes on
-        knows whether it was moved."""
+        """Syncs the new files, and gives them to the owner of the folder. There is a log too, so that a run that goes
+        on knows whether it was moved."""
         machine = self.machine
         if not machine.exists(log_of(self.new)):
             machine.write_whole(log_of(self.new), b"", 0o600)
@@ -53,13 +53,13 @@ class Work:
         machine.sync_folder(self.folder)
 
     def is_begun(self) -> bool:
-        """Whether the desk that stood there is moved away, and the new one not in its place: no desk starts."""
+        """Whether the old desk is moved away, and the new one not in its place: no desk starts."""
         return bool(self.ready() and not self.machine.exists(self.database))
 
     def put_in_place(self) -> Path:
-        """Gives the files that stand there another name, and the new ones their place, or goes on with that. The
-        database goes first and comes last: without it no desk starts. As long as the new log is where it was made, the
-        log that stands there is the old one."""
+        """Renames the old files, and moves the new ones into their place, or goes on with that. The database is moved
+        away first and put in place last: without it no desk starts. As long as the new log is still where it was made,
+        the log in place is the old one."""
         ready = self.ready()
         assert ready
         new, before = ready / self.database.name, self.before(ready.name.removeprefix(READY))
@@ -77,7 +77,7 @@ class Work:
             self.machine.sync_folder(old.parent)
 
     def finish(self, units: Units) -> None:
-        """Puts the new desk into its place where the old one is moved away, and starts what was stopped."""
+        """Puts the new desk into place if the old one is moved away, and starts what was stopped."""
         if self.is_begun():
             self.put_in_place()
         stopped = [self.machine.read(file).decode() for file in self.machine.paths(self.folder, "units")]
@@ -86,7 +86,7 @@ class Work:
         self.machine.remove_tree(self.folder)
 
     def end_killed(self, units: Units) -> bool:
-        """Ends what a run began that was killed. Whether its desk is in place then."""
+        """Finishes what a killed run began; returns whether its desk is in place."""
         if not self.machine.exists(self.folder):
             return False
         ready = self.ready()

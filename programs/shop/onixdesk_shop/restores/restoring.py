@@ -1,4 +1,4 @@
-"""One restore: what it is to put into place, what is said before, and the exchange."""
+"""One restore: what is put into place, what is said before, and the exchange."""
 
 import argparse
 import io
@@ -18,7 +18,7 @@ from onixdesk_shop.units import Units
 
 
 class Restore:
-    remedy = "with --gaps it is put into place all the same"
+    remedy = "--gaps restores it nevertheless"
 
     def __init__(self, machine: Machine, options: argparse.Namespace) -> None:
         self.machine = machine
@@ -30,23 +30,23 @@ class Restore:
         self.said: list[str] = []
         self.planned: dict[str, list[int]] = {}
         self.has_all = True
-        # Whether the present desk has a message that a person refused, and the copy has not.
+        # Whether the present desk has a message that a person refused, and the copy lacks it.
         self.has_refused = False
 
     # The new files
 
     def lay_out(self) -> None:
-        """Failed where the copy, or the desk that its corrected text makes, is not sound."""
+        """Raises Failed if the copy, or the desk made of its corrected text, is not sound."""
         machine, options, name = self.machine, self.options, self.options.db.name
         made = corrections_since(machine, options.db.parent, options.copy)
         if made and not options.before_correction:
             raise Failed(f"{options.copy}: it is from before a correction (--before-correction): {made[0]}")
         for line in made:
             machine.tell(WARNING, f"has to be made again: {line}")
-        # SQLite leaves the third where somebody has looked at a copy.
+        # SQLite leaves the third file if somebody has looked at a copy.
         found = {entry.name for entry in machine.entries(options.copy)} - {f"{name}-shm", LEDGERS, CORRECTIONS}
         if name not in found or found - {name, f"{name}-wal"}:
-            raise Fault(f"{options.copy}: it has not {name} and its log alone")
+            raise Fault(f"{options.copy}: it does not have {name} and its log alone")
         self.work.begin()
         for each in found:
             machine.copy(options.copy / each, self.work.new.parent / each)
@@ -57,7 +57,7 @@ class Restore:
             send(self.desk, io.BytesIO(machine.read(options.text)))
 
     def send_since(self, present: Contents) -> None:
-        """Tells the new desk the agreements and waivers that the present one has and the copy lacked."""
+        """Sends the new desk the agreements and waivers that the present one has and the copy lacked."""
         since = present.beyond(self.base)
         if not since.requests():
             return
@@ -71,7 +71,7 @@ class Restore:
         self.base.waivers |= since.waivers
 
     def present(self) -> Contents:
-        """What the present desk was told, by a copy; nothing where that cannot be read, which is told."""
+        """What the present desk was told, by a copy; empty if that cannot be read, which is reported."""
         machine, database = self.machine, self.options.db
         if not machine.exists(database):
             return Contents()
@@ -79,7 +79,7 @@ class Restore:
             with copied(machine, database) as (copy, _):
                 return contents_of(machine, copy)
         except Fault as fault:
-            machine.tell(WARNING, f"what the present desk was told since is not known: {fault}")
+            machine.tell(WARNING, f"it is unknown what the present desk was told since: {fault}")
             return Contents()
 
     # What is said before
@@ -106,7 +106,7 @@ class Restore:
         return said, lost
 
     def inboxes(self) -> list[Inbox]:
-        """Those that are there, and those whose ledgers the copy alone has."""
+        """The present inboxes, and those whose ledgers only the copy has."""
         machine, options = self.machine, self.options
         found = inboxes_in(machine, options.inboxes, options.settings)
         known = {inbox.series for inbox in found}
@@ -122,13 +122,13 @@ class Restore:
         return [path.stem for path in self.machine.paths(self.options.copy / LEDGERS, "*.db")]
 
     def is_wanted(self, is_told: bool) -> bool:
-        """Says what comes, and asks. Failed where something is lost and nobody said that it may."""
+        """Says what comes, and asks; raises Failed if something is lost and nobody allowed it."""
         for line in [*self.said, *self.prepare(self.present())]:
             self.machine.write(f"{line}\n")
         return is_told or self.machine.ask("put it into the desk's place? (yes) ") == "yes"
 
     def prepare(self, present: Contents) -> list[str]:
-        """Makes again what the present desk was told since; what is posted again, in lines."""
+        """Makes again what the present desk was told since; returns what is posted again, in lines."""
         self.send_since(present)
         said, lost = self.plan(present)
         if lost and not self.options.gaps:
@@ -155,15 +155,15 @@ class Restore:
         machine.tell(NOTICE, f"the desk is in place as {options.db}; {stood}")
 
     def stop(self) -> None:
-        """Stops what runs, once the disk has what is to be started again."""
+        """Stops what runs, once the disk has the list of what to start again."""
         units = "\n".join(self.units.begun).encode()
         self.machine.write_whole(self.work.folder / "units", units, 0o600)
         if self.units.all:
             self.units.systemctl("stop", *self.units.all)
 
     def note_corrections(self) -> None:
-        """Those of the copy too, which another machine has not. Copies until the one that is put into place are right
-        where what was refused is not in it."""
+        """Adds those of the copy, which another machine lacks. Copies up to the restored one are right if they lack
+        what was refused."""
         options, folder = self.options, self.options.db.parent
         found = dict.fromkeys([*corrections_in(self.machine, folder), *corrections_in(self.machine, options.copy)])
         if options.text or self.has_refused:
@@ -173,7 +173,7 @@ class Restore:
             self.machine.write_whole(folder / CORRECTIONS, "".join(f"{line}\n" for line in found).encode(), 0o600)
 
     def put_ledgers_back(self) -> None:
-        """A ledger of the copy has its place where there is none."""
+        """Puts a ledger of the copy in place if there is none."""
         machine, options = self.machine, self.options
         for name in self.ledgers_of_copy():
             folder = options.inboxes / name
@@ -186,5 +186,5 @@ class Restore:
             machine.own(new, options.inboxes)
             machine.rename(new, folder / LEDGER)
             machine.sync_folder(folder)
-            since = "what was refused, let in or waived since is not known"
+            since = "it is unknown what was refused, let in or waived since"
             machine.tell(WARNING, f"onixdesk-inbox report {name}; its ledger is the copy's, as there was none: {since}")

@@ -1,1 +1,1 @@
-"""The command `onixdesk convert`: its words, its files, what it writes and what it says."""
+"""The command `onixdesk convert`: its options, its files, its output and its lines."""

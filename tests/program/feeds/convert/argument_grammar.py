@@ -1,4 +1,4 @@
-"""What a converter takes for the words of a sender, of numbers and of parts, and what it does not."""
+"""Which options for a sender, numbers and parts the converter accepts, and which not."""
 
 import shlex
 

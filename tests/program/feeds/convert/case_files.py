@@ -33,8 +33,8 @@ FOLDER = TESTS / "conversions"
 
 WHOLE_FILE, EACH = "file", "each "
 
-# The reference names that count, with their short tags, as ONIX has them. In ONIX 2.1 the Territory of a Price had
-# another one.
+# The reference names that count, with their short tags, as in ONIX. In ONIX 2.1 the Territory of a Price had another
+# tag.
 SHORT_TAGS = dict(
     pair.split("=")
     for pair in """
@@ -63,7 +63,7 @@ SHORT_TAGS = dict(
 
 
 class Frame(NamedTuple):
-    """What stands before and behind a place in the XML, and before it in the records."""
+    """What stands before and after a place in the XML, and before it in the records."""
 
     before: str
     behind: str
@@ -137,7 +137,7 @@ class Converted(NamedTuple):
     is_told: bool = False
 
     def wrong_products(self) -> int:
-        """How many products are let through that are wrong; each has a reference of its own, or none."""
+        """How many wrong products are let through; each has a reference of its own, or none."""
         references = [line.split(": ")[1] for line in self.wrong] if self.records is not None else []
         return len({*references} - {"missing"}) + references.count("missing")
 
@@ -155,7 +155,7 @@ class Case(NamedTuple):
     summary: list[str] | None
 
     def lines(self) -> list[bytes]:
-        """The feeds of a case that has one for each line."""
+        """The feeds of a case that has one on each line."""
         frame = FRAMES.get(self.place.removeprefix(EACH), Frame("", ""))
         return [unescaped(f"{frame.before}{line}{frame.behind}") for line in self.xml.splitlines()]
 
@@ -204,7 +204,7 @@ def in_short_tags(text: str) -> str:
 
 
 def placed(said: str, text: str, written: str) -> str:
-    """What is said of a place in the text, with the line and the column that it has in the text as it is written in
+    """A line about a place in the text, with the line and the column of that place in the text as it is written in
     either kind of names."""
     found = PLACE.fullmatch(said)
     if not found:
@@ -237,7 +237,7 @@ def records_of(place: str, text: str) -> str:
 
 
 def case_of(written: Written) -> Case:
-    """The case that is written so: of a part that has no more than its head, that is the text."""
+    """The case in this form: the text of a part that has only its head."""
     parts = {}
     for head, body in written.parts:
         key, _, value = (head, "", "") if head.startswith(EACH) else head.partition(" ")

@@ -1,4 +1,4 @@
-"""What `onixdesk convert` reads of the bytes and the named characters of a feed: what Python's codecs and HTML have."""
+"""How `onixdesk convert` reads a feed's bytes and named characters, compared with Python's codecs and HTML."""
 
 import codecs
 from collections.abc import Iterator
@@ -13,7 +13,7 @@ from tests.running import Outcome
 
 FRAME = FRAMES["products"]
 
-# The names of encodings by Python's; UTF-16 that is declared over bytes without a mark is UTF-8.
+# Names of encodings, by Python's; UTF-16 declared over bytes without a mark is UTF-8.
 NAMES = {
     "utf-8": ["UTF-8", "utf8", "UTF_8", "UTF-16", "utf-16"],
     "latin-1": ["ISO-8859-1", "ISO8859_1", "Latin1", "LATIN-1"],
@@ -21,14 +21,14 @@ NAMES = {
     "cp1252": ["Windows-1252", "windows1252", "cp1252", "CP-1252"],
     "ascii": ["US-ASCII", "us_ascii", "ASCII", "ascii"],
 }
-# A mark outweighs what is declared.
+# A mark takes precedence over the declaration.
 MARKED = [("utf-8", codecs.BOM_UTF8, name) for name in ("", "UTF-8", "ISO-8859-1", "EBCDIC")]
 WHITE_SPACE = "\t\n"
 OF_UNICODE = "é½€𐀀\U0010fffd"
 
 
 def characters_of(codec: str) -> str:
-    """All that it has beyond ASCII, or some where it has all of Unicode."""
+    """All characters beyond ASCII, or some if it has all of Unicode."""
     return OF_UNICODE if codec.startswith("utf") else bytes(range(0x80, 0x100)).decode(codec, "ignore")
 
 
@@ -51,7 +51,7 @@ def encodings(room: Room) -> Iterator[Outcome]:
 
 
 def names_of_elements(room: Room) -> Iterator[Outcome]:
-    """A letter of an encoding may stand in a name, and another sign not."""
+    """A letter of an encoding may be in a name, another sign may not."""
     for codec, name, letter in [("latin-1", "latin1", "é"), ("iso8859-15", "ISO-8859-15", "š")]:
         came = convert(room, given=feed_of(name, f"<{letter}/>", PRODUCT.format("R1")).encode(codec))
         yield Outcome(f"convert: a name in {codec}", came, Ran(0, message_of("R1")))
@@ -60,7 +60,7 @@ def names_of_elements(room: Room) -> Iterator[Outcome]:
 
 
 def utf_16(room: Room) -> Iterator[Outcome]:
-    """What begins with a mark of it is refused, and the line says how it is recoded, behind which it is read."""
+    """A feed with this mark is refused, the line says how to recode it, and then it is read."""
     text = feed_of("UTF-16", PRODUCT.format("é"))
     for codec, mark in ("utf-16-le", codecs.BOM_UTF16_LE), ("utf-16-be", codecs.BOM_UTF16_BE):
         for data in mark + text.encode(codec), mark:

@@ -11,7 +11,7 @@ from tests.program.feeds.feed_oracle import UNPRICED
 from tests.program.room import Ran, Room
 from tests.running import Outcome
 
-# The most lines of notes on a file, and the most bytes of a field.
+# The most lines of notes on a file, and the most bytes in a field.
 LINES = 1_000
 FIELD_BYTES = 1_024
 
@@ -55,7 +55,7 @@ def bounded(room: Room) -> Iterator[Outcome]:
 
 
 def products_besides(room: Room) -> Iterator[Outcome]:
-    """Lines on products that are left out or emptied have a bound of their own, behind a thousand others too."""
+    """Lines on products that are left out or emptied have a limit of their own, even after a thousand others."""
     frame = FRAMES["prices"]
     others = PRICE.format("06") * (LINES + 200)
     wrong = "<Product><RecordReference>W{}</RecordReference></Product>\n"
@@ -107,7 +107,7 @@ def markets_of(*territories: list[str]) -> bytes:
 
 
 def unions(room: Room) -> Iterator[Outcome]:
-    """A union has room for as many countries as a field has bytes for, and no more."""
+    """A union has room for as many countries as fit into a field, and no more."""
     most = (FIELD_BYTES + 1) // 3
     room.write(FEED, markets_of(COUNTRIES[:200], COUNTRIES[100:most]))
     came = convert(room, FEED)

@@ -1,4 +1,4 @@
-"""What `onixdesk convert` says of a feed that is no message, how far it is, and what an ended run leaves."""
+"""What `onixdesk convert` says of a feed that is no message, its progress, and what an ended run leaves."""
 
 import contextlib
 import os
@@ -23,12 +23,12 @@ from tests.running import Outcome
 CUT = "the file ends too early"
 NO_XML = "no well-formed XML at"
 
-# Longer than what is kept of the beginning of a feed, and than what is read of it at once.
+# Longer than the kept beginning of a feed, and than what is read of it at once.
 LONG = f"<!--{' ' * 70_000}-->"
 
 
 class Case(NamedTuple):
-    """A feed that is refused, and why it is."""
+    """A feed that is refused, and why."""
 
     name: str
     feed: bytes
@@ -36,13 +36,13 @@ class Case(NamedTuple):
 
 
 def feeds() -> Iterator[Case]:
-    """Those of tests/refusals/feeds.txt: the name of a case begins to say why its feeds are refused, which have escapes."""
+    """The feeds in tests/refusals/feeds.txt, with escapes; a case's name begins like the reason for its refusal."""
     for case in read_file(TESTS / "refusals/feeds.txt"):
         for text in case.text.removesuffix("\n").splitlines():
             yield Case(f"the feed {text}", unescaped(repeated(text)), case.name)
 
 
-# Of as many bytes a feed is that is begun: fewer than tell its encoding, as many as are kept of it, and so on.
+# The sizes of feeds that break off: too few bytes to tell the encoding, as many as are kept, and so on.
 SIZES = [512, 1_023, 1_024, 2_000, 65_535, 65_536, 65_537, 200_000]
 
 BEGUN = FRAME.before + PRODUCT.format("R1")
@@ -75,7 +75,7 @@ ENDS = [
 
 
 def packed(room: Room) -> Iterator[Outcome]:
-    """A FILE that is packed by its name is refused with what unpacks it."""
+    """A FILE that is packed by its name is refused, with the command that unpacks it."""
     for name in "a.xml.gz", "A.GZ", "a.zip", "A.Zip":
         room.write(name, b"")
         why = "packed; gunzip -c or unzip -p unpacks it"
@@ -90,7 +90,7 @@ def standing(feed: bytes, head: str) -> str:
 
 
 def refused(cases: list[Case], room: Room) -> Iterator[Outcome]:
-    """Why each is refused, as a file and by standard input, and what stands where it is malformed."""
+    """Why each is refused, as a file and on standard input, and what stands where it is malformed."""
     for case in cases:
         room.write(FEED, case.feed)
         for name, came in [
@@ -107,7 +107,7 @@ def refused(cases: list[Case], room: Room) -> Iterator[Outcome]:
 
 
 def unread(room: Room) -> Iterator[Outcome]:
-    """What cannot be read is a fault with its reason."""
+    """A file that cannot be read is a fault with its reason."""
     came = room.run("convert", ".")
     yield Outcome("convert: a folder", came, Ran(3, b"", b"onixdesk: .: Is a directory\n"))
     came = room.run("convert", given=None)
@@ -115,7 +115,7 @@ def unread(room: Room) -> Iterator[Outcome]:
 
 
 def all_of(terminal: int) -> bytes:
-    """What was written to a terminal that nobody has open any more, whose end is a fault."""
+    """The output on a terminal that nobody has open any more, whose end is a fault."""
     found = b""
     with contextlib.suppress(OSError):
         while piece := os.read(terminal, 65_536):
@@ -124,7 +124,7 @@ def all_of(terminal: int) -> bytes:
 
 
 def terminal(room: Room) -> Iterator[Outcome]:
-    """On a terminal a line shows how far a feed is, and is taken away at the end."""
+    """On a terminal a line shows the progress of a feed, and is removed at the end."""
     os.mkfifo(room.path("pipe.xml"))
     runs: list[tuple[str, list[str]]] = [("-", []), ("pipe.xml", ["pipe.xml"])]
     for name, words in runs:
@@ -169,16 +169,16 @@ def contents(folder: Path) -> dict[str, bytes]:
     return {path.name: path.read_bytes() for path in folder.iterdir()}
 
 
-# What a run is given once it has made its first part.
+# The rest of a run's input after its first part.
 REST = b"</ONIXmessage>"
 
 
 def first_parts(folder: Path) -> dict[str, int]:
-    """The hidden files of first parts that are whole, and when each was written."""
+    """The hidden files of complete first parts, and when each was written."""
     size = len(PARTS["message.part-01.csv"])
     states = {}
     for path in folder.glob(".message.onixdesk.*.1"):
-        # The run gives it another name meanwhile.
+        # The run renames it meanwhile.
         with contextlib.suppress(FileNotFoundError):
             states[path.name] = path.stat()
     return {name: state.st_mtime_ns for name, state in states.items() if state.st_size == size}
@@ -193,7 +193,7 @@ def started(room: Room) -> subprocess.Popen[bytes]:
     process.stdin.write(LARGE.removesuffix(REST))
     process.stdin.flush()
     for _ in range(SECONDS * 100):
-        # The name that a run before it has left is written anew, and is no whole part meanwhile.
+        # The hidden file of an earlier run is written anew, and is not complete meanwhile.
         if first_parts(room.path("out")).items() - before.items() and len(names(room.path("out"))) == 2:
             break
         time.sleep(0.01)
@@ -201,7 +201,7 @@ def started(room: Room) -> subprocess.Popen[bytes]:
 
 
 def stopped(number: signal.Signals, room: Room) -> Iterator[Outcome]:
-    """What a run leaves that a signal has ended, the next one of the same NAME takes anew."""
+    """What a run that a signal ended left, the next one of the same NAME replaces."""
     for turn in (1, 2):
         process = started(room)
         process.send_signal(number)
@@ -215,8 +215,8 @@ def stopped(number: signal.Signals, room: Room) -> Iterator[Outcome]:
 
 
 def together(room: Room) -> Iterator[Outcome]:
-    """Of two runs of one NAME the second ends with its line, whatever it converts, and takes nothing of the first, which
-    comes to its end. One of another NAME, or into another folder, is none of its business."""
+    """Of two runs of one NAME the second ends with its line, whatever it converts, and does not disturb the first,
+    which finishes. A run of another NAME, or into another folder, is not affected."""
     process = started(room)
     living = contents(room.path("out"))
     room.write("message.xml", ONE)
@@ -240,7 +240,7 @@ def together(room: Room) -> Iterator[Outcome]:
 
 
 def strangers(room: Room) -> Iterator[Outcome]:
-    """What has a hidden name and is no file of a run is neither followed nor written over."""
+    """A hidden name that is not a run's file is neither followed nor overwritten."""
     room.write("precious", b"precious")
     room.path("out").mkdir()
     room.path("out/.feed.onixdesk.0").symlink_to(room.path("precious"))

@@ -1,5 +1,5 @@
-"""`onixdesk convert` where it cannot write, where files come meanwhile, or where nobody takes what it says: what is
-left, and the status."""
+"""`onixdesk convert` when it cannot write, when files appear meanwhile, or when nobody reads its output: what is left,
+and the status."""
 
 import contextlib
 import os
@@ -30,7 +30,7 @@ def names(folder: Path) -> list[str]:
 
 @contextlib.contextmanager
 def small_disk(room: Room) -> Iterator[Path | None]:
-    """A folder on a file system of 100 kB, or None where none may be mounted."""
+    """A folder on a file system of 100 kB, or None if none may be mounted."""
     folder = room.path("disk")
     folder.mkdir()
     words: list[Word] = ["mount", "-t", "tmpfs", "-o", "size=100k", "none", folder]
@@ -44,7 +44,7 @@ def small_disk(room: Room) -> Iterator[Path | None]:
 
 
 def full_disk(room: Room) -> Iterator[Outcome]:
-    """A disk that is full in the midst of a message: one line, and nothing is left on it."""
+    """A disk that fills up amid a message: one line, and nothing is left on it."""
     room.write("a.xml", LARGE)
     with small_disk(room) as folder:
         if folder is None:
@@ -59,7 +59,7 @@ def full_disk(room: Room) -> Iterator[Outcome]:
 
 
 def largest_file(room: Room) -> Iterator[Outcome]:
-    """A bound on the size of files stands for a full disk where none may be mounted."""
+    """A limit on file sizes stands for a full disk if none may be mounted."""
     room.write("a.xml", LARGE)
     room.path("out").mkdir()
     script = f'ulimit -f 20; trap "" XFSZ; exec "{room.program}" convert -o out a.xml'
@@ -75,7 +75,7 @@ def run_without_error(room: Room, *words: str) -> int:
 
 
 def closed_error(room: Room) -> Iterator[Outcome]:
-    """The statuses are the same where standard error is closed, or takes nothing."""
+    """The statuses are the same if standard error is closed, or takes nothing."""
     room.write("a.xml", ONE)
     room.write("b.xml", BAD)
     room.write("w.xml", WRONG)
@@ -117,7 +117,7 @@ def begun(room: Room, *words: str) -> subprocess.Popen[bytes]:
 
 
 def empty_files(room: Room) -> Iterator[Outcome]:
-    """An empty regular file counts as not there; a link to one, and what is no regular file, does not."""
+    """An empty regular file counts as missing; a link to one does not, nor does any other file."""
     room.write("a.xml", ONE)
     room.write("empty", b"")
     place = room.path("a.csv")
@@ -136,7 +136,7 @@ def empty_files(room: Room) -> Iterator[Outcome]:
 
 
 def came_meanwhile(room: Room) -> Iterator[Outcome]:
-    """A file that comes while a message is read is not written over, and no part of the message is placed."""
+    """A file that appears while a message is read is not overwritten, and no part of the message is placed."""
     process = begun(room, "--parts", "2")
     assert process.stdin
     # So many products that the first part is written before the last of them has come.

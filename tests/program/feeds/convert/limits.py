@@ -94,7 +94,7 @@ def product_of(details: int, prices: int) -> str:
 
 
 def between_others(product: str) -> bytes:
-    """A feed of three products, of which that is the second."""
+    """A feed of three products; this is the second."""
     return f"{FRAME.before}{PRODUCT.format('R0')}\n{product}\n{PRODUCT.format('R2')}{FRAME.behind}".encode()
 
 
@@ -137,7 +137,7 @@ def many_identifiers(room: Room) -> Iterator[Outcome]:
 
 
 def large_product(room: Room) -> Iterator[Outcome]:
-    """A product of elements of more than 4,194,304 bytes, each 64 beside its text, is refused before it is looked at."""
+    """A product of elements of more than 4,194,304 bytes, each 64 beside its text, is refused at once."""
     room.write(FEED, between_others(product_of(MOST - 2, 0)))
     said_of = said([f"{FEED}:2:1: refused: a Header or a Product of more than 4,194,304 bytes"])
     for option in (), ("--wrong", "all"):
@@ -146,7 +146,7 @@ def large_product(room: Room) -> Iterator[Outcome]:
 
 
 def a_whole_product_in_the_next_part(room: Room) -> Iterator[Outcome]:
-    """A product that does not fit into what is left of a part begins the next."""
+    """A product that does not fit into the rest of a part begins the next."""
     names = references(MOST - 1)
     feed = feed_of(*names).replace(FRAME.behind.encode(), (product_of(1, 0) + FRAME.behind).encode())
     room.write(FEED, feed)

@@ -1,4 +1,4 @@
-"""A conversion that is measured: its processor time and its memory."""
+"""A measured conversion: its processor time and its memory."""
 
 import contextlib
 import subprocess
@@ -11,8 +11,8 @@ from typing import BinaryIO, NamedTuple
 # How long a conversion may take.
 SECONDS = 300
 
-# Runs a program and then writes its greatest resident memory, in kilobytes, and the seconds of processor time that it
-# took. What runs it is small, since a process begins with the memory of the one that starts it.
+# Runs a program and then writes its peak resident memory, in kilobytes, and its seconds of processor time. The runner
+# is small, since a process starts with the memory of its parent.
 MEASURING = """
 import os, sys
 child = os.posix_spawn(sys.argv[1], sys.argv[1:], os.environ)
@@ -24,8 +24,7 @@ sys.exit(os.waitstatus_to_exitcode(status) % 256)
 
 
 class Converted(NamedTuple):
-    """How a run ended and what it wrote, the seconds of processor time that it took, and its greatest memory in
-    bytes."""
+    """How a run ended and what it wrote, its seconds of processor time, and its peak memory in bytes."""
 
     status: int
     output: bytes
@@ -35,7 +34,7 @@ class Converted(NamedTuple):
 
 
 def feed_in(pieces: Iterator[bytes], stream: BinaryIO) -> None:
-    """Writes the pieces, as far as they are taken."""
+    """Writes the pieces, as far as they are read."""
     with contextlib.suppress(BrokenPipeError), stream:
         for piece in pieces:
             stream.write(piece)

@@ -22,8 +22,8 @@ class Noted(NamedTuple):
 
 
 class Came(NamedTuple):
-    """What comes of a feed: its records, None where it is refused, the notes, and the refusal as far as it is compared:
-    its place, and a part of why, which stands alone where the line has it."""
+    """What a feed becomes: its records, None if it is refused; the notes; and what is compared of the refusal: its
+    place, and a part of the reason, which stands alone if the line has it."""
 
     records: bytes | None
     notes: list[Noted]
@@ -34,7 +34,7 @@ PART = re.compile("<(?:[Hh]eader|[Pp]roduct)>")
 
 
 def of_part(place: str, data: bytes) -> str:
-    """The place of the start tag of the Header or the Product in which a place of a feed is, from that tag on."""
+    """The start tag of the Header or Product around a place in a feed, and what follows it."""
     text = data.decode(errors="replace")
     lines = text.split("\n")
     line, column = map(int, place.split(":"))
@@ -46,7 +46,7 @@ def of_part(place: str, data: bytes) -> str:
     return f"{before.count(chr(10)) + 1}:{len(before) - before.rfind(chr(10))}"
 
 
-# How an element is called that does not count in its place, which differs in short tags; tests/refusals has it.
+# The name of an element that does not count in its place, which differs in short tags; tests/refusals has it.
 CALLED = re.compile("(?<=spelling: ).*")
 
 
@@ -67,20 +67,20 @@ def wanted(feed: Feed) -> Came:
 
 
 def came_as(said: list[tuple[str, str, str]], records: bytes | None, feed: Feed) -> Came:
-    """What came, with as much of a refusal as is compared."""
+    """The result, with as much of a refusal as is compared."""
     notes = [noted(f"{place}: {what}") for place, is_refused, what in said if not is_refused]
     refused = [(place, what) for place, is_refused, what in said if is_refused]
     if len(refused) != 1:
         return Came(records, sorted(notes), ("", str(refused)) if refused else None)
     (place, what), (hoped, why) = refused[0], refusal(feed.wanted) or ("", "")
-    # What is wrong with a Header or a Product is told at it, or where it is in that.
+    # What is wrong with a Header or a Product is reported at it, or at its place in it.
     is_there = hoped == ANYWHERE or hoped != "" and place in (hoped, of_part(hoped, feed.data))
     return Came(records, sorted(notes), (hoped if is_there else place, why if why in what else what))
 
 
 def read_lines(errors: bytes) -> tuple[dict[int, list[tuple[str, str, str]]], list[str]]:
-    """The lines about each feed, by its number: the place, whether it is refused and what is said; and the summary behind
-    them."""
+    """The lines about each feed, by its number: the place, whether it is refused, and what is said; and the summary
+    after them."""
     of_feeds: dict[int, list[tuple[str, str, str]]] = {}
     summary = []
     for text in errors.decode().splitlines():
@@ -112,7 +112,7 @@ def check(words: list[str], table: str, feeds: list[Feed], room: Room) -> Iterat
 
 
 def summed(name: str, feeds: list[Feed], summary: list[str]) -> Iterator[Outcome]:
-    """The lines behind the notes come to the count of all; some cases say each of them."""
+    """The lines after the notes add up to the count of all; some cases have each of them."""
     written = [feed.wanted for feed in feeds if feed.wanted.records is not None]
     notes = sum(len(each.notes) + len(each.wrong) for each in written)
     wrong = sum(each.wrong_products() for each in written)
@@ -128,7 +128,7 @@ AT_ONCE = 30
 
 
 def groups(cases: list[Case]) -> Iterator[Group]:
-    """Those with the same words and terms are converted together, but for one with a summary of its own; --number is for
+    """Feeds with the same words and terms are converted together, unless one has a summary of its own; --number is for
     one file alone."""
     together: dict[tuple[tuple[str, ...], str], list[list[Feed]]] = {}
     for case in cases:

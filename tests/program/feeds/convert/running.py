@@ -8,7 +8,7 @@ from tests.program.feeds.convert.memory_of import converted
 from tests.program.room import Ran, Room
 from tools.words import Word
 
-# The file that holds the feed of a case.
+# The file with the feed of a case.
 FEED = "feed.xml"
 
 
@@ -20,13 +20,13 @@ REFUSED = re.compile(r"onixdesk: ([^ ]+):([0-9]+):[0-9]+: refused: .")
 
 
 def refused_lines(came: Ran) -> list[tuple[str, int]]:
-    """The files that were refused, and the line of each where the place of it is."""
+    """The refused files, and the line of each at the place."""
     found = map(REFUSED.match, came.errors.decode().splitlines())
     return [(each[1], int(each[2])) for each in found if each]
 
 
 class Measured(NamedTuple):
-    """How a run ended, the seconds of processor time that it took, and its greatest memory in bytes."""
+    """How a run ended, its seconds of processor time, and its peak memory in bytes."""
 
     ran: Ran
     seconds: float

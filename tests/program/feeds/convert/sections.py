@@ -1,4 +1,4 @@
-"""What `onixdesk convert` makes of CDATA sections, which are read in stretches."""
+"""What `onixdesk convert` makes of CDATA sections, which are read in pieces."""
 
 import os
 import threading
@@ -13,10 +13,10 @@ from tests.running import Outcome
 
 FRAME = FRAMES["products"]
 
-# What a conversion may take of memory.
+# How much memory a conversion may take.
 MEMORY = 16 * 1_048_576
 
-# Pieces of sections, all of odd lengths, so that what is read at once ends at each byte of them.
+# Pieces of sections, all of odd lengths, so that a read may end at each of their bytes.
 PIECES = ["x", "]", "]]x", "]x]> ", "&<]]]\n<"]
 
 LONG = 9_000_000
@@ -27,7 +27,7 @@ def section(text: str) -> str:
 
 
 def passed_over(room: Room) -> Iterator[Outcome]:
-    """In an element that is passed over a section has no bound."""
+    """In an ignored element a section has no limit."""
     for piece in PIECES:
         feed = f"{FRAME.before}<x>{section(piece * (LONG // len(piece)))}</x>{PRODUCT.format('R1')}{FRAME.behind}"
         came = measured(room, iter([feed.encode()]))
@@ -42,7 +42,7 @@ def write_bytes(path: Path, data: bytes) -> None:
 
 
 def byte_by_byte(room: Room) -> Iterator[Outcome]:
-    """The marks of a section are found whatever is read at once."""
+    """The marks of a section are found wherever a read ends."""
     os.mkfifo(room.path("pipe.xml"))
     references = {"]": section("]"), "]]]": section("]]]"), "a]b]]c]>d": section("a]b]]c]>d") + section("")}
     products = "".join(map(PRODUCT.format, references.values()))

@@ -1,4 +1,4 @@
-"""What the words, files and statuses of `onixdesk convert` are to be."""
+"""Expected words, files and statuses of `onixdesk convert`."""
 
 from typing import NamedTuple
 
@@ -41,11 +41,11 @@ def message_of(*references: str, number: int = 1) -> bytes:
 
 ONE, TWO = feed_of("R1"), feed_of("R1", "R2")
 
-# A feed that is refused at its Header, and what is said of it.
+# A feed that is refused at its Header, and the line about it.
 BAD = ONE.replace(b"<MessageNumber>1</MessageNumber>", b"")
 BAD_SAID = "1:28: refused: no MessageNumber; --number N gives one"
 
-# A feed of two products, of which the first is left out.
+# A feed of two products; the first is left out.
 WRONG = feed_of("", "R2")
 
 
@@ -55,7 +55,7 @@ def ends(status: int, *lines: str) -> Ran:
 
 
 class Case(NamedTuple):
-    """Files that are there, words, how the run ends, and the files that it leaves beside those."""
+    """Existing files, words, how the run ends, and the files that it leaves beside those."""
 
     name: str
     files: dict[str, bytes]

@@ -25,7 +25,7 @@ from tests.running import Outcome
 
 NAMES = {"a.xml": "a", "b.c.onix": "b.c", "d": "d", "j.gz.xml": "j.gz"}
 
-# Two products that have together more records than a message may have.
+# Two products that together have more records than a message may have.
 PRICES = 10_000
 PRODUCTS = [supplied(reference, DETAIL.format(PRICE * PRICES)) for reference in ("R1", "R2")]
 LARGE = in_short_tags("\n".join([FRAME.before, *PRODUCTS, FRAME.behind])).encode()
@@ -39,7 +39,7 @@ def large_part(number: int, *references: str) -> bytes:
     return f"{records}EndMessage,{records.count(chr(10))}\n".encode()
 
 
-# A feed of a Price, the shop's terms, and the message that comes of both.
+# A feed of a Price, the shop's terms, and the message that both give.
 PRICED = "".join(FRAMES["price"][:2]).encode()
 TERMS = b'[[term]]\ntypes = ["02"]\nnet = "05"\npercent = "42.5"\n'
 PAID = records_of("price", "Price,,12.99,,,,,,\nPrice,05,7.47,,,,,,\n").encode()
@@ -101,12 +101,12 @@ CASES = [
     Case("a file of nothing", {FEED: b""}, ["-o", ".", FEED], Ran(1, b"", b"onixdesk: feed.xml:1:1: refused\n")),
 ]
 
-# What a line begins with: a FILE, and perhaps a place and that it is refused.
+# How a line begins: with a FILE, and perhaps a place and that it is refused.
 HEAD = re.compile(r"onixdesk: ([^ :]+)((?::[0-9]+:[0-9]+)?)(: refused\b)?")
 
 
 def heads(errors: bytes) -> list[tuple[str, ...]]:
-    """The lines about files, without why; not the summary."""
+    """The lines about files, without reasons; not the summary."""
     found = map(HEAD.match, errors.decode().splitlines())
     return [each.groups("") for each in found if each]
 

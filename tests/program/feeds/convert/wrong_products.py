@@ -1,5 +1,5 @@
-"""What `onixdesk convert` makes of products that the desk would not take as they stand: how many it lets through, what it
-says of a FILE of too many."""
+"""What `onixdesk convert` makes of products that the desk would not take as they are: how many it lets through, and
+what it says of a FILE with too many."""
 
 from collections.abc import Iterator
 from functools import partial
@@ -16,7 +16,7 @@ from tests.running import Outcome
 FRAME = FRAMES["products"]
 
 
-# How many of how many products are wrong, and whether `--wrong few`, and `--wrong none`, lets them through.
+# How many of how many products are wrong, and whether `--wrong few` and `--wrong none` let them through.
 COUNTS = [
     (0, 2, True, True),
     (1, 1, True, False),
@@ -34,7 +34,7 @@ WRONG = PRODUCT.replace("<NotificationType>03</NotificationType>", "")
 
 
 def few(wrong: int, products: int, few_go: bool, none_go: bool, room: Room) -> Iterator[Outcome]:
-    """The wrong ones stand at the end, each on a line of its own."""
+    """The wrong ones come last, each on a line of its own."""
     right = products - wrong
     texts = [PRODUCT.format(f"R{number}") for number in range(right)]
     texts += [WRONG.format(f"W{number}") for number in range(wrong)]
@@ -61,7 +61,7 @@ def few(wrong: int, products: int, few_go: bool, none_go: bool, room: Room) -> I
         yield Outcome(name, found, (1, b"", said(notes), True))
 
 
-# A Price that is left out since it is foreign, and one that is wrong.
+# A Price that is left out as foreign, and a wrong one.
 FOREIGN_PRICE = "<Price><PriceQualifier>06</PriceQualifier><PriceAmount>1</PriceAmount></Price>"
 WRONG_PRICE = "<Price><PriceAmount>1,00</PriceAmount></Price>"
 
@@ -71,8 +71,8 @@ def priced(reference: str, prices: str) -> str:
 
 
 def before_refusal(products: list[str], room: Room) -> tuple[int, bytes, list[str]]:
-    """What comes of these products, each on a line of its own, where none may be wrong: the status, what is written,
-    and of each line on standard error the place and what follows it, up to the reason."""
+    """What becomes of these products, each on a line of its own, if none may be wrong: the status, the output, and of
+    each line on standard error the place and what follows it, up to the reason."""
     room.write(FEED, "\n".join([FRAME.before, *products, FRAME.behind]).encode())
     came = convert(room, "--wrong", "none", FEED)
     lines = [line.removeprefix(f"onixdesk: {FEED}:") for line in came.errors.decode().splitlines()]
@@ -82,8 +82,8 @@ def before_refusal(products: list[str], room: Room) -> tuple[int, bytes, list[st
 
 
 def others_notes(room: Room) -> Iterator[Outcome]:
-    """Before the refusal stand all notes on wrong products, and none on others: also where those have the reference of
-    a wrong one, or more notes than lines are written."""
+    """Before the refusal come all notes on wrong products, and no others: even if others have the reference of a wrong
+    one, or there are more notes than lines."""
     right, namesake = priced("R1", FOREIGN_PRICE), priced("W", FOREIGN_PRICE)
     wrong = priced("W", FOREIGN_PRICE + "\n" + WRONG_PRICE)
     column = wrong.index("<Price>") + 1
@@ -101,7 +101,7 @@ def others_notes(room: Room) -> Iterator[Outcome]:
 
 
 def before_parts(room: Room) -> Iterator[Outcome]:
-    """Of a message of too many wrong products that needs more parts too, the products are told."""
+    """If a message has too many wrong products and also needs more parts, the refusal is for the products."""
     large = supplied("R1", DETAIL.format(PRICE * (MOST - 3)))
     texts = [WRONG.format("W1"), large, WRONG.format("W2")]
     room.write(FEED, "\n".join([FRAME.before, *texts, FRAME.behind]).encode())

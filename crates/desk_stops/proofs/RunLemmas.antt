@@ -7,7 +7,7 @@ use Rattle.series_rules.proofs.TraceLemmas.{trace_premise}
 use Rattle.series_rules.specs.Answers.{answer_to}
 use Rattle.series_rules.specs.Changes.{is_question}
 use Rattle.series_rules.specs.Steps.{Follows, HasAll, Step, has_change, in_doubt, with_answered}
-use Rattle.series_rules.specs.Views.{Asks, DeskKind, LeavesOnly, View}
+use Rattle.series_rules.specs.Views.{Asks, DeskKind, View}
 use Rattle.series_rules.specs.declared.answers.Answer.{Answer}
 use Rattle.series_rules.specs.declared.requests.Request.{Request}
 use Rattle.std.specs.Prelude.{IfOk}

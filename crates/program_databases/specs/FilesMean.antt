@@ -1,10 +1,11 @@
 -- Of which lists of requests the two files of a desk are, and what a run makes of that.
 use Rattle.std.specs.Prelude.{◌≡◌, ◌↔◌, ℕ, List, []}
-use Rattle.sqlite.specs.Files.{image_of}
+use Rattle.sqlite.specs.Files.{HoldsDatabase, image_of, over_files}
 use Rattle.sqlite_disk.specs.declared.Disk.{Ghosts}
 use Rattle.sqlite_disk.specs.declared.Files.{Files}
 use Rattle.sqlite_store.specs.declared.store.FileStore.{FileStore}
 use Rattle.sqlite_trees.specs.Tree.{Trees}
+use Rattle.sqlite_wal.specs.Files.{outcomes}
 use Rattle.sqlite_wal.specs.Reads.{AreClean}
 use Rattle.sqlite_wal.specs.Recovery.{Image}
 use Rattle.price_rules.specs.declared.precedence.Rule.{Rule}
@@ -13,7 +14,7 @@ use Rattle.series_rules.specs.Steps.{Leads, Step, with_answered}
 use Rattle.series_rules.specs.declared.requests.Request.{Request}
 use Rattle.desk_rows.specs.Seen.{in_tables}
 use Rattle.desk_versions.specs.Openings.{AreEmptyFiles, AreFoundAs}
-use Rattle.program_desks.specs.DeskFiles.{DeskFiles}
+use Rattle.program_desks.specs.DeskFiles.{DeskFiles, LastsAlone}
 use Rattle.program_desks.specs.declared.kept_desks.Creation.{Creation}
 use Rattle.program_databases.specs.FileViews.{MayBeTaken}
 use Rattle.program_databases.specs.declared.unopened.Unopened.{Unopened}
@@ -41,6 +42,21 @@ module _ {K O U D : Type 0} (g : Ghosts D) (held : K → List ℕ → Image)
     -- lists of which the same files are, if something is found in these, come to the same
     pub one : (image : Image) (d : Trees) → AreFoundAs image d → (L M : List Request)
         → AreOf image L → AreOf image M → SameContent L M
+
+  -- What a crash may leave of the files of a desk, once nothing writes them, is of the same lists.
+  pub record KeepLists (AreOf : Image → List Request → Type 0) : Type 0 where
+    -- of closed files that last alone, if something is found in them; so is the database file
+    -- without its log
+    pub closed : (now : Files D) (d : Trees) (left : Image) (L : List Request)
+        → LastsAlone files now → AreClean g now.log now.db → AreFoundAs (image_of g now) d
+        → AreOf (image_of g now) L → outcomes g now.log now.db left
+        → AreOf left L × AreOf (record left { log = [] }) L
+    -- of a desk whose files could not be closed: each database that a crash may leave is seen as
+    -- one, and files that hold it are of the lists that it comes to
+    pub unclosed : (last : FileStore D g) (d : Trees) → (over_files {g = g}).recovers last d
+        → (files.unclosed last).may_leave d
+    pub comes_to : (image : Image) (d : Trees) (L : List Request) → ∥ HoldsDatabase image d ∥₁
+        → in_tables.comes_to d L → AreOf image L
 
   -- the files of a name are opened only if they may be taken for a desk
   abbrev pub AreTakenRightly : Type 0

@@ -1,5 +1,6 @@
 use Rattle.std.proofs.Common.{inl, inr, refl}
-use Rattle.program_databases.proofs.ContentLemmas.{hands_on, one_of}
+use Rattle.desk_rows.proofs.ComesTo.{come_rows}
+use Rattle.program_databases.proofs.ContentLemmas.{closed_lists, hands_on, one_of}
 use Rattle.program_databases.proofs.stored_desks.files_mean_lists.Goals as goal
 
 pub returns-clause-lists : goal.returns-clause-lists
@@ -13,6 +14,13 @@ returns-clause-lists g c =
       handed = λ rules steps desks name creation now L leads clean are. hands_on g.O.File.Disk rules steps (held desks.databases name) creation now L leads clean are;
       one = one_of c.rows_have_one_content.ensures;
     }
+
+pub returns-clause-crashes : goal.returns-clause-crashes
+returns-clause-crashes g c = record {
+  closed = λ now d left L lasts clean found are may. let alone = lasts clean in closed_lists g.O.File.Disk now d alone.0 left L alone.1 found are may;
+  unclosed = λ last d may. may;
+  comes_to = λ image d L both comes. inl (d, both, come_rows d L comes);
+}
 
 pub returns-clause-taken : goal.returns-clause-taken
 returns-clause-taken g c = λ desks name creation. (λ is. is, λ is. is)

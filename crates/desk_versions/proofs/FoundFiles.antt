@@ -123,7 +123,7 @@ module _ (s0 : State) (opens : Opens s0) (empty : s0.now.schema ≡ schema_0) wh
     where
       go : IsDone (opening tt) s0.now s1 → IsTrue s1.is_open
       go (inl (up, found)) = up
-      go (inr (shut, more, rest)) = absurd (omega (arith, none, more))
+      go (inr (shut, more, told, alone)) = absurd (omega (arith, none, more))
 
   pub new_fault : (left : Trees → Type 0) (fault : OpenFault) → LeavesShown opening s0 left fault → ¬ IsOther fault
   new_fault left (Store e) leaves other = other
@@ -151,7 +151,7 @@ closed_hold image s L up both keeps = (s.committed.trees, both, (s.committed, re
 -- so it is with what a migration made of what was found
 pub closed_done : (image : Image) (s : State) (way : Way) (db : Database) → IsTrue s.is_open → ∥ HoldsDatabase image s.committed.trees ∥₁ → IsDone way db s → ByFound way db (IsHeld image)
 closed_done image s way db up both (inl (now, found)) = by_found way db (IsThere s) (IsHeld image) (λ Is it. (it.0, it.1, subst (λ (x : Database). ∥ HoldsDatabase image x.trees ∥₁) (it.2 up).2 both)) found
-closed_done image s way db up both (inr (shut, failed)) = absurd (false_is_true (sym shut ∙ up))
+closed_done image s way db up both (inr (shut, more, told, alone)) = absurd (false_is_true (sym shut ∙ up))
 
 -- a store that is clean was clean
 pub still_clean : (s : State) (b : Bool) → doubt s.is_clean ≤ doubt b → IsTrue b → HasCleanDisk s

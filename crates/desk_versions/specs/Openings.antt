@@ -112,9 +112,9 @@ opening done = record {
   made = MakesIndex;
 }
 
--- What comes of a database by what was found in it (`Ends`: this of databases for which that
--- holds): one that stays, one that is changed, or none of a desk. Of other programs' tables, beside
--- a `meta` or without, nothing is said.
+-- What comes of a database, by what was found in it: it stays, or something is made of its rows, or
+-- the tables of no request are made where there was no table. `Ends` is said of what is there then:
+-- a database for which this holds. Of other programs' tables nothing more is said.
 abbrev pub ByFound : Way → Database → ((Database → Type 0) → Type 0) → Type 0
 ByFound way db Ends =
     (Tells db (Some way.version) × way.stays db × Ends (λ now. now ≡ db))

@@ -1,26 +1,31 @@
 -- Whatever lists of requests two files are found to hold, the content is one.
-use Rattle.std.proofs.Common.{◌∙◌, List, inl, inr, refl, subst, sym}
-use Rattle.sqlite.specs.Files.{HoldsDatabase, image_of}
+use Rattle.std.proofs.Common.{◌≡◌, ◌⊎◌, ◌∷◌, ◌∙◌, [], false, List, inl, inr, refl, subst, sym}
+use Rattle.std.specs.Prelude.{Contains}
+use Rattle.sqlite.specs.Files.{HoldsDatabase, image_of, over_files}
 use Rattle.sqlite_disk.specs.declared.Disk.{Ghosts}
 use Rattle.sqlite_disk.specs.declared.Files.{Files}
+use Rattle.sqlite_store.specs.declared.store.FileStore.{FileStore}
 use Rattle.sqlite_trees.specs.Tree.{Trees}
+use Rattle.sqlite_trees.specs.View.{IsClean}
 use Rattle.sqlite_wal.specs.Files.{outcomes}
 use Rattle.sqlite_wal.specs.Reads.{AreClean}
 use Rattle.sqlite_wal.specs.Recovery.{Image}
 use Rattle.price_rules.specs.declared.precedence.Rule.{Rule}
 use Rattle.desk_tables.specs.Schema.{schema_0}
 use Rattle.series_rules.specs.Content.{SameContent, same_trans}
-use Rattle.series_rules.specs.Steps.{Leads, Step, with_answered}
+use Rattle.series_rules.specs.Steps.{HasAll, Leads, Step, has_change, in_doubt, with_answered}
 use Rattle.series_rules.specs.declared.requests.Request.{Request}
 use Rattle.desk_rows.specs.ContentLemmas.{rows_by_content}
+use Rattle.desk_rows.proofs.ComesTo.{come_rows}
 use Rattle.desk_rows.specs.Desks.{AreRowsOf}
+use Rattle.desk_rows.specs.Seen.{in_tables}
 use Rattle.desk_stops.proofs.ConnectionLaws.{empty_holds_no_rows}
 use Rattle.desk_stops.specs.Connections.{RowsHaveOneContent}
 use Rattle.desk_versions.proofs.EmptyFiles.{bare_database, nothing_found}
 use Rattle.desk_versions.specs.Openings.{AreEmptyFiles, AreFilesOf, AreFoundAs, HoldRowsOf}
 use Rattle.program_desks.specs.declared.kept_desks.Creation.{Creation}
 use Rattle.program_databases.proofs.ViewLemmas.{found_trees, same_refl}
-use Rattle.program_databases.specs.FileViews.{HoldAlone, MayBeTaken, seen_files, seen_image}
+use Rattle.program_databases.specs.FileViews.{HoldAlone, MayBeTaken, seen_files, seen_image, seen_store}
 
 same_sym : (L M : List Request) → SameContent L M → SameContent M L
 same_sym L M same = record { agreements = λ name. sym (same.agreements name); firsts = λ series number. sym (same.firsts series number) }
@@ -76,3 +81,17 @@ closed_lists g now d x left L (seen, outcomes) found are may =
       same_lists (image_of g now) d found (record left { log = [] }) (subst (λ t. ∥ HoldsDatabase (record left { log = [] }) t ∥₁) same alone.alone) L are,
     )
 
+-- so is what it leaves of files that could not be closed, with what was answered
+pub unclosed_lists : {D : Type 0} (g : Ghosts D) (rules : List Rule) (steps : List Step) (image : Image) (creation : Creation) (last : FileStore D g) (d : Trees) (left : Image) (L : List Request)
+    → Leads rules steps (seen_image image creation) (seen_store last) → IsClean ((over_files {g = g}).view last) → (over_files {g = g}).recovers last d → ∥ HoldsDatabase left d ∥₁ → AreFilesOf image L
+    → AreFilesOf left (with_answered L steps) ⊎ (((r : Request) × Contains (in_doubt L steps) r × AreFilesOf left (r ∷ with_answered L steps)) ⊎ ((has_change L steps ≡ false) × AreFilesOf left L))
+unclosed_lists g rules steps image creation last d left L leads clean may both are = go ((leads.follows (L, are, same_refl L) clean).left d may)
+  where
+    rows_of_left : (M : List Request) → AreRowsOf d M → AreFilesOf left M
+    rows_of_left M rows = inl (d, both, rows)
+
+    go : HasAll in_tables (with_answered L steps) (in_doubt L steps) d ⊎ ((has_change L steps ≡ false) × (seen_image image creation).may_leave d)
+        → AreFilesOf left (with_answered L steps) ⊎ (((r : Request) × Contains (in_doubt L steps) r × AreFilesOf left (r ∷ with_answered L steps)) ⊎ ((has_change L steps ≡ false) × AreFilesOf left L))
+    go (inl (inl comes)) = inl (rows_of_left (with_answered L steps) (come_rows d (with_answered L steps) comes))
+    go (inl (inr (r, doubted, comes))) = inr (inl (r, doubted, rows_of_left (r ∷ with_answered L steps) (come_rows d (r ∷ with_answered L steps) comes)))
+    go (inr (none, was)) = inr (inr (none, rows_of_left L (was L are)))

@@ -48,7 +48,7 @@ holds_found : (db was : Database) → IsDatabase db → IsDatabase was → db.tr
 holds_found db was sound found same meta whole s (inl (open, inl (tells, stays, (now, is, shown, alone)))) = λ up. ap (λ (x : Database). x.trees) ((shown up).2 ∙ is)
 holds_found db was sound found same meta whole s (inl (open, inr (inl (tells, lacks, made)))) = absurd (no_bool (sym lacks ∙ lacks_again db was sound found (sym same) ∙ whole))
 holds_found db was sound found same meta whole s (inl (open, inr (inr (none, creates, made)))) = absurd (no_bool (sym meta ∙ no_meta_again was db found none sound same))
-holds_found db was sound found same meta whole s (inr (shut, failed)) = λ up. absurd (no_bool (sym up ∙ shut))
+holds_found db was sound found same meta whole s (inr (shut, more, told, alone)) = λ up. absurd (no_bool (sym up ∙ shut))
 
 holds_meta : (image : Image) (s : State) → TakesFound image s → (d : Trees) → HoldMeta image d → (seen_in s).holds d
 holds_meta image s (was, found, as_found, done) d (db, sound, trees, both, meta, whole) =

@@ -150,7 +150,7 @@ def judge_anew(inbox: Inbox, where: str = "state = 'refused'", *values: str) -> 
 
 def give_back(inbox: Inbox, file: File) -> None:
     """The numbers of a file that no desk took are free again; of those that the inbox gave none that has a later one behind
-    it, which is another's for good."""
+    it, which is another's for good, or waived."""
     ledger = inbox.ledger
     last = ledger.last_final() if inbox.settings.gives_number(file.ending) else 0
     for row in ledger.messages_of(file) if not ledger.is_final(file) else []:

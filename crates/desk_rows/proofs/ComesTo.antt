@@ -1,5 +1,5 @@
 -- Trees that a crash leaves come to a list just where they hold its rows.
-use Rattle.std.proofs.Common.{List, ◌⊎◌, inl, inr, refl}
+use Rattle.std.proofs.Common.{List, inl, refl}
 use Rattle.sqlite.specs.Effect.{Database}
 use Rattle.sqlite_trees.specs.Tree.{Trees}
 use Rattle.series_rules.specs.declared.requests.Request.{Request}
@@ -16,8 +16,3 @@ rows_come d L rows = (L, rows, record { agreements = λ name. refl; firsts = λ 
 
 pub come_rows : (d : Trees) (M : List Request) → in_tables.comes_to d M → AreRowsOf d M
 come_rows d M (L, rows, same) = rows_by_content d L M same rows
-
--- it was there before, or is what a list comes to
-pub or_rows : {P Q : Type 0} (d : Trees) (L : List Request) → P ⊎ (Q × in_tables.comes_to d L) → P ⊎ (Q × AreRowsOf d L)
-or_rows d L (inl was) = inl was
-or_rows d L (inr (q, came)) = inr (q, come_rows d L came)

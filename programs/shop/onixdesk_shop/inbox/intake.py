@@ -80,7 +80,7 @@ def take_file(inbox: Inbox, entry: Entry) -> str:
         machine.rename(copy, stored)
     machine.sync_folder(inbox.store)
     before = inbox.ledger.latest(digest)
-    file = inbox.ledger.take(digest, shown(name_of(entry)), ending, entry.size, entry.modified, time_of(entry), is_new)
+    file = inbox.ledger.take(digest, shown(name_of(entry)), ending, entry.size, time_of(entry), is_new)
     if before:
         if before.ending != file.ending:
             machine.remove(inbox.stored(before))
@@ -137,4 +137,4 @@ def adopt(inbox: Inbox) -> None:
         if not found:
             machine.remove(inbox.store / entry.name)
         elif not inbox.ledger.latest(found[1]):
-            inbox.ledger.take(found[1], entry.name, found[2], entry.size, entry.modified, time_of(entry), False)
+            inbox.ledger.take(found[1], entry.name, found[2], entry.size, time_of(entry), False)

@@ -40,7 +40,6 @@ class File:
     name: str
     ending: str
     size: int
-    modified: int
     time: int
     seen: int
     state: str
@@ -133,7 +132,7 @@ class Ledger:
     def file(self, number: int) -> File:
         return self.files("id = ?", number)[0]
 
-    def take(self, digest: str, name: str, ending: str, size: int, modified: int, time: int, is_new: bool) -> File:
+    def take(self, digest: str, name: str, ending: str, size: int, time: int, is_new: bool) -> File:
         """Writes a row for bytes that came in. Bytes that came before keep their state, unless they were refused: those
         are tried again, as new ones if `is_new`, or else in their old place, before others of their number."""
         now = int(self.machine.now())
@@ -141,12 +140,11 @@ class Ledger:
             known = self.latest(digest)
             if not known:
                 self.do(
-                    "INSERT INTO file (digest, name, ending, size, modified, time, seen, state, at)"
-                    " VALUES (?, ?, ?, ?, ?, ?, ?, ?, ?)",
-                    *(digest, name, ending, size, modified, time, now, State.NEW, now),
+                    "INSERT INTO file (digest, name, ending, size, time, seen, state, at) VALUES (?, ?, ?, ?, ?, ?, ?, ?)",
+                    *(digest, name, ending, size, time, now, State.NEW, now),
                 )
                 return self.files("digest = ?", digest)[0]
-            self.set_of_file(known, name=name, modified=modified, seen=now)
+            self.set_of_file(known, name=name, seen=now)
             if known.state == State.NEW:
                 self.set_of_file(known, time=min(time, known.time))
             if known.state == State.REFUSED and not self.is_final(known):
@@ -160,9 +158,9 @@ class Ledger:
         """Another row for the same bytes, as if they came in now."""
         now = self.machine.now()
         self.do(
-            "INSERT INTO file (digest, taking, name, ending, size, modified, time, seen, state, at)"
+            "INSERT INTO file (digest, taking, name, ending, size, time, seen, state, at)"
             " SELECT digest, (SELECT max(taking) + 1 FROM file WHERE digest = one.digest), name, ending, size,"
-            " modified, ?, ?, 'new', ? FROM file AS one WHERE id = ?",
+            " ?, ?, 'new', ? FROM file AS one WHERE id = ?",
             *(int(now * 1e9), int(now), int(now), file.id),
         )
 

@@ -7,8 +7,7 @@ CREATE TABLE file (
     name TEXT NOT NULL,                     -- by which it came last
     ending TEXT NOT NULL,                   -- what it is; the store has it as DIGEST and ending
     size INTEGER NOT NULL,
-    modified INTEGER NOT NULL,              -- in nanoseconds, as it came
-    time INTEGER NOT NULL,                  -- the same, but never behind its arrival: the order in which files are judged
+    time INTEGER NOT NULL,                  -- in nanoseconds, never behind its arrival: the order in which files are judged
     seen INTEGER NOT NULL,                  -- in seconds: came last
     state TEXT NOT NULL CHECK (
         state IN ('new', 'quarantined', 'refused', 'posting', 'held', 'applied', 'had', 'rejected', 'replaced')

@@ -542,9 +542,10 @@ class Model(RuleBasedStateMachine):
                 right = self.may_be(standing, part) if standing else [None]
                 right += [None] if is_kept_out else []
                 right += [each for sent in stays for each in self.may_be(sent, part)]
-                if at in self.waived:
-                    # Then the desk refused what came first, and the next file of the number takes its place.
-                    right += [WAIVED, *(each for sent in candidates for each in self.may_be(sent, part))]
+                right += [WAIVED] if at in self.waived else []
+                if at in self.waived or standing and standing.was_had:
+                    # The desk refused what came first, whose place the next file of the number takes.
+                    right += [each for sent in candidates for each in self.may_be(sent, part)]
                 assert bare(series.had.get(at)) in right, (at, series.had.get(at), right)
             for sent in candidates:
                 # An older ledger may not know that a person refused it.

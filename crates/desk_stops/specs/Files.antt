@@ -18,7 +18,7 @@ use Rattle.sqlite_wal.specs.Recovery.{Image}
 use Rattle.series_rules.specs.declared.requests.Request.{Request}
 use Rattle.desk_rows.specs.Desks.{AreRowsOf, KeepsRequests}
 use Rattle.desk_rows.specs.Seen.{in_tables, seen_in}
-use Rattle.desk_versions.specs.Openings.{AreFilesOf, MakesIndex, SparesFiles}
+use Rattle.desk_versions.specs.Openings.{AreFilesOf, SparesFiles, opening}
 use Rattle.desk_stops.specs.Connections.{HaveNoTable}
 use Rattle.desk_stops.specs.Runs.{Closes, IsFoundFor, KeepsFound, Opens}
 
@@ -44,7 +44,7 @@ pub record FileOpeningsAreEvents {D : Type 0} (g : disk.Ghosts D) : Type 0 where
       → Opens in_tables HaveNoTable found (seen_in (file_state new))
   -- with a fault, by its clause `left` (`KeepsFiles`), where a store is left of the files
   pub failed : (image : Image) (found : Trees) (it : FileStore D g) → AreFilesAt image found
-      → (IsCleanLeft (leftover.Store it) → SparesFiles MakesIndex image (recovers it))
+      → (IsCleanLeft (leftover.Store it) → SparesFiles opening image (recovers it))
       → IsCleanLeft (leftover.Store it)
       → (left : Trees) → recovers it left
       → KeepsFound in_tables HaveNoTable found left

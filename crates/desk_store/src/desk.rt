@@ -12,7 +12,7 @@ ghost use Rattle.sqlite_wal.specs.Files.{image_at};
 ghost use Rattle.sqlite_wal.specs.Reads.{AreClean};
 ghost use Rattle.desk_rows.specs.Desks.{AreRowsOf, KeepsRequests};
 ghost use Rattle.desk_versions.specs.Creation.{AreRefused};
-ghost use Rattle.desk_versions.specs.Openings.{AreFilesOf, AreItsTrees, HasNoMeta, HoldRowsOf, IsFaultFor, IsOther, IsReady, KeepsFiles, KeepsStore, LeavesOne, MakesIndex, ShowsOnly, Spares, TakesFound, TellsFiles, TellsFound, left_in};
+ghost use Rattle.desk_versions.specs.Openings.{AreFilesOf, Becomes, HoldRowsOf, IsOther, KeepsFiles, KeepsStore, LeavesShown, TakesFound, TellsFiles, left_in, opening};
 ghost use Rattle.desk_rows.specs.Seen.{in_tables};
 ghost use Rattle.series_rules.specs.Views.{LeavesOnly};
 ghost use Rattle.series_rules.specs.declared.requests.Request.{Request};
@@ -23,7 +23,6 @@ use csv_records::records::Records;
 use desk_rows::listing::{ask_agreements, ask_text};
 use desk_rows::questions::{ask_catalogue, ask_gaps, ask_offers, collect_offers};
 use desk_tables::rows::fault::fault_of;
-use desk_tables::rows::laws::same_trees_hold_the_same_rows;
 use desk_tables::tables::Tables;
 use desk_versions::opening::{Creation, OpenFault, OpenOptions, connect, prepare};
 use onix_message::{Agreement, StoreFault};
@@ -54,17 +53,11 @@ pub struct DeskStore<S: Alter> {
 impl<S: Alter + Drop> DeskStore<S> {
     // The desk over a connection that was just opened, or its store beside the fault.
     fn over(alloc: Global, connection: Connection<S>) -> Result<DeskStore<S>, (OpenFault, S)>
-        ensures ok { IfOk result
-            (λ d. IsReady (state S.Store connection) (state S.Store d.tables.connection) (Ok tt)) }
-        ensures fault { IfErr result (λ e. IsTrue (S.Store.view e.1).is_clean
-            → HasCleanDisk (state S.Store connection)
-            × (IsTrue (state S.Store connection).is_open
-            → TellsFound IsFaultFor (λ db. ShowsOnly db (state S.Store connection))
-            (LeavesOne (S.Store.recovers e.1)) (HasNoMeta (state S.Store connection)) e.0)) }
+        ensures ok { IfOk result (λ d. Becomes opening
+            (state S.Store connection) (state S.Store d.tables.connection) (Ok tt)) }
         ensures left { IfErr result (λ e. IsTrue (S.Store.view e.1).is_clean
-            → IsTrue (state S.Store connection).is_open
-            → Spares MakesIndex (λ db. ShowsOnly db (state S.Store connection)) AreItsTrees
-            (S.Store.recovers e.1)) }
+            → HasCleanDisk (state S.Store connection)
+            × LeavesShown opening (state S.Store connection) (S.Store.recovers e.1) e.0) }
     {
         let mut tables = Tables::new(connection);
         match prepare(&mut tables) {
@@ -136,16 +129,10 @@ impl<D: Disk + Drop> DeskStore<FileStore<D>> {
         alloc: Global,
         connection: Connection<FileStore<D>>,
     ) -> Result<DeskStore<FileStore<D>>, (OpenFault, Leftover<D>)>
-        ensures ok { IfOk result
-            (λ d. IsReady (file_state connection) (file_state d.tables.connection) (Ok tt)) }
-        ensures fault { IfErr result (λ e. IsCleanLeft e.1 → HasCleanDisk (file_state connection)
-            × (IsTrue (file_state connection).is_open
-            → TellsFound IsFaultFor (λ db. ShowsOnly db (file_state connection))
-            (LeavesOne (left_in e.1)) (HasNoMeta (file_state connection)) e.0)) }
-        ensures left { IfErr result (λ e. IsCleanLeft e.1
-            → IsTrue (file_state connection).is_open
-            → KeepsStore
-            (Spares MakesIndex (λ db. ShowsOnly db (file_state connection)) AreItsTrees) e.1) }
+        ensures ok { IfOk result (λ d. Becomes opening
+            (file_state connection) (file_state d.tables.connection) (Ok tt)) }
+        ensures left { IfErr result (λ e. IsCleanLeft e.1 → HasCleanDisk (file_state connection)
+            × KeepsStore (λ left. LeavesShown opening (file_state connection) left e.0) e.1) }
     {
         match DeskStore::over(alloc, connection) {
             Ok(desk) => Ok(desk),
@@ -175,9 +162,9 @@ impl<D: Disk + Drop> DeskStore<FileStore<D>> {
         ensures taken { IfOk result (λ d. HasCleanDisk (file_state d.tables.connection)
             → TakesFound (image_of D.Disk files) (file_state d.tables.connection)) }
         ensures fault { IfErr result (λ e. IsCleanLeft e.1
-            → TellsFiles IsFaultFor (image_of D.Disk files) (left_in e.1) e.0) }
+            → TellsFiles opening (image_of D.Disk files) (left_in e.1) e.0) }
         ensures left { IfErr result (λ e. IsCleanLeft e.1
-            → KeepsFiles (λ were. were ≡ files) MakesIndex (image_of D.Disk files) e.1) }
+            → KeepsFiles (λ were. were ≡ files) opening (image_of D.Disk files) e.1) }
     {
         DeskStore::open_files_with(alloc, files, OpenOptions::new(1, Creation::Anywhere))
     }
@@ -202,15 +189,14 @@ impl<D: Disk + Drop> DeskStore<FileStore<D>> {
         ensures taken { IfOk result (λ d. HasCleanDisk (file_state d.tables.connection)
             → TakesFound (image_of D.Disk files) (file_state d.tables.connection)) }
         ensures fault { IfErr result (λ e. IsCleanLeft e.1
-            → TellsFiles IsFaultFor (image_of D.Disk files) (left_in e.1) e.0) }
+            → TellsFiles opening (image_of D.Disk files) (left_in e.1) e.0) }
         ensures left { IfErr result (λ e. IsCleanLeft e.1
-            → KeepsFiles (λ were. were ≡ files) MakesIndex (image_of D.Disk files) e.1) }
+            → KeepsFiles (λ were. were ≡ files) opening (image_of D.Disk files) e.1) }
         ensures chosen { IfOk result (λ d. HasCleanDisk (file_state d.tables.connection)
             → ¬ AreRefused options.creation (image_of D.Disk files)) }
         ensures spared { IfErr result (λ e. IsCleanLeft e.1
             → AreRefused options.creation (image_of D.Disk files) → LeavesFiles files e.1) }
     {
-        same_trees_hold_the_same_rows();
         let connection = match connect(alloc, files, options) {
             Ok(connection) => connection,
             Err((fault, left)) => return Err((OpenFault::Store(fault), left)),
@@ -260,13 +246,12 @@ impl<S: Start> DeskStore<FileStore<FileFrom<S>>> {
         ensures taken { IfOk result (λ d. HasCleanDisk (file_state d.tables.connection)
             → TakesFound (image_at S.Start) (file_state d.tables.connection)) }
         ensures fault { IfErr result (λ e. IfSome e.1 (λ left. IsCleanLeft left
-            → TellsFiles IsFaultFor (image_at S.Start) (left_in left) e.0)) }
+            → TellsFiles opening (image_at S.Start) (left_in left) e.0)) }
         ensures left { IfErr result (λ e. IfSome e.1 (λ left. IsCleanLeft left
-            → KeepsFiles (λ were. IsFresh true were.log × IsFresh false were.db) MakesIndex
+            → KeepsFiles (λ were. IsFresh true were.log × IsFresh false were.db) opening
             (image_at S.Start) left)) }
         ensures unopened { IfErr result (λ e. e.1 ≡ None → ¬ IsOther e.0) }
     {
-        same_trees_hold_the_same_rows();
         let connection = match Connection::open_from(rt, path, false, start) {
             Ok(connection) => connection,
             Err((error, left)) => return Err((OpenFault::Store(fault_of(error)), left)),

@@ -1,30 +1,30 @@
--- What is found where a desk is opened, against the lists of requests.
-use Rattle.std.proofs.Common.{◌≡◌, ◌⊎◌, inl, inr, ℕ, Bool, true, false, List, [], Option, Some, None, Ok, Err, Result, IsTrue, refl, sym, ap, ◌∙◌, subst}
+-- What is found where a desk is opened, and what is made of it.
+use Rattle.std.proofs.Common.{◌≡◌, ◌⊎◌, inl, inr, ℕ, Bool, true, false, List, [], Option, Some, None, Ok, Err, Result, IsTrue, arith, refl, sym, ap, ◌∙◌, subst}
 use Rattle.std.specs.Prelude.{IsSome, ⊤}
 use Rattle.std.specs.List.{list_any}
 use Rattle.sqlite.specs.Effect.{Database}
 use Rattle.sqlite.specs.State.{State, HasCleanDisk}
+use Rattle.sqlite_disk.specs.Disk.{MoreFaults}
 use Rattle.sqlite_trees.specs.Tree.{Trees}
 use Rattle.desk_tables.proofs.MetaAlone.{first_has_meta, has_its_meta, second_has_meta, unindexed_has_meta}
 use Rattle.desk_tables.proofs.MissingIndex.{first_lacks_more, second_has_index, unindexed_lacks_index}
 use Rattle.desk_tables.specs.Meta.{HoldsMeta, version_among}
-use Rattle.desk_tables.specs.Rows.{DeskRows, Holds, HoldsFirst, HoldsUnindexed, MetaRow, first_rows}
+use Rattle.desk_tables.specs.Rows.{DeskRows, Holds, HoldsFirst, HoldsUnindexed, MetaRow, first_rows, version_in}
 use Rattle.desk_tables.specs.Schema.{is_meta, lacks_index, schema_0}
 use Rattle.desk_tables.specs.Transactions.{IsEmptied}
 use Rattle.onix_records.specs.declared.faults.StoreFault.{StoreFault}
 use Rattle.series_rules.specs.declared.requests.Request.{Request}
-use Rattle.desk_rows.specs.Desks.{AreRowsOf, HoldsRequests, HoldsSecond, KeepsRequests, StoresRequests}
-use Rattle.desk_versions.specs.Openings.{AreItsTrees, AreTreesOf, CouldLeave, HasNoMeta, HoldsAny, IsCreated, IsFaultFor, IsFoundFor, IsIndexed, IsReady, IsVersionRead, KeepsRows, LeavesOne, LeavesRows, MakesIndex, MayBecomeDesk, ShowsOnly, Spares, StaysShown, TellsFound}
-use Rattle.desk_rows.specs.Stands.{StandsFor}
+use Rattle.desk_rows.specs.Desks.{AreRowsOf, HoldsRequests, KeepsRequests, StoresRequests}
+use Rattle.desk_versions.specs.Openings.{AreTreesOf, Becomes, ByFound, HoldsAny, IsCreated, IsDone, IsFaultOf, IsFoundFor, IsIndexed, IsLeft, IsThere, IsVersionRead, LeavesShown, LeavesOne, MakesIndex, MayBeLeft, ShowsOnly, Tells, Way, opening}
 use Rattle.desk_versions.specs.declared.opening.OpenFault.{OpenFault}
 use Rattle.desk_versions.specs.declared.opening.OpenFault.TheVariants.{Store, OtherVersion}
 use Rattle.desk_rows.proofs.ComesTo.{stored}
 use Rattle.desk_versions.proofs.EmptyFiles.{first_stand}
 use Rattle.desk_versions.proofs.SetVersions.{version_stands}
 
--- ---- what is found
+-- ---- what is told
 
-pub no_meta : (db : Database) → IsEmptied schema_0 db → list_any is_meta db.schema.tables ≡ false
+pub no_meta : (db : Database) → IsEmptied schema_0 db → Tells db None
 no_meta db emptied = rw emptied.schema_is refl
 
 -- a database of a desk, in either version, has its table `meta`
@@ -33,353 +33,251 @@ any_has_meta db rows (inl (inl held)) = second_has_meta db rows held
 any_has_meta db rows (inl (inr held)) = unindexed_has_meta db rows held.0
 any_has_meta db rows (inr held) = first_has_meta db rows held
 
-pub keeps_found : (db : Database) (L : List Request) (s : State) → ShowsOnly db s → HoldsRequests db L → KeepsRequests s L
-keeps_found db L s only held = λ up. let is = only up in (is.0, subst (λ d. HoldsRequests d L) (sym is.1) held, subst (λ d. HoldsRequests d L) (sym is.2) held)
+no_bool : {A : Type 0} (b : Bool) → b ≡ true → b ≡ false → A
+no_bool b is not = absurd (let no : true ≡ false = sym is ∙ not in cc)
 
--- a fault of the store, which is true of everything
-pub tells_store : (IsTrueOf : List MetaRow → OpenFault → Type 0) (Found Stays : Database → Type 0) (HasNone : Type 0) (e : StoreFault) → ((meta : List MetaRow) → IsTrueOf meta (Store e))
-    → TellsFound IsTrueOf Found Stays HasNone (Store e)
-tells_store IsTrueOf Found Stays HasNone e always = record {
-  version = λ db found meta has. always meta;
-  stays = λ db found meta has other. absurd other;
-  none = λ none other. other;
-}
+-- what tells a version does not tell none
+pub tells_both : {A : Type 0} (db : Database) (version : ℕ) → Tells db (Some version) → Tells db None → A
+tells_both db version tells none = no_bool _ tells.0 none
 
--- the version that was read
-pub tells_other : (IsTrueOf : List MetaRow → OpenFault → Type 0) (s0 s1 : State) (found : ℕ) → IsVersionRead s0 s1 (Ok (Some found)) → HasCleanDisk s1
-    → ((meta : List MetaRow) → version_among meta ≡ Some found → IsTrueOf meta (OtherVersion found))
-    → TellsFound IsTrueOf (λ db. ShowsOnly db s0) (StaysShown s0 s1) (HasNoMeta s0) (OtherVersion found)
-tells_other IsTrueOf s0 s1 found read clean is_true = record {
-  version = λ db only meta has. is_true meta (sym (read.present clean db only meta has));
-  stays = λ db only meta has other. (read.left clean db only, read.crash clean db only);
-  none = λ (db, only, no_table) other. some_none (read.absent clean db only no_table);
-}
-  where
-    some_none : ◌≡◌ {A = Option ℕ} (Some found) None → ⊥
-    some_none e = absurd cc
+-- the version of rows is told
+pub tells_rows : (db : Database) (version : ℕ) (rows : DeskRows) → Tells db (Some version) → HoldsAny db rows → version_in rows ≡ Some version
+tells_rows db version rows tells any = tells.1 rows.meta (any_has_meta db rows any)
+
+-- where none is told, there are no rows
+pub tells_no_rows : {A : Type 0} (db : Database) (rows : DeskRows) → Tells db None → HoldsAny db rows → A
+tells_no_rows db rows none any = no_bool _ (has_its_meta db rows.meta (any_has_meta db rows any)) none
+
+-- ---- what is left
 
 -- while the connection is open, a crash leaves what was committed
 abbrev pub IsSettled : State → Type 0
 IsSettled s = (d : Trees) → IsTrue s.is_open → s.may_leave d → d ≡ s.committed.trees
 
--- what stays is all that a crash leaves of a connection that was just opened
-pub tells_left : (IsTrueOf : List MetaRow → OpenFault → Type 0) (s0 s1 : State) (left : Trees → Type 0) (fault : OpenFault) → IsSettled s0 → ((d : Trees) → left d → s1.may_leave d) → IsTrue s0.is_open
-    → TellsFound IsTrueOf (λ db. ShowsOnly db s0) (StaysShown s0 s1) (HasNoMeta s0) fault → TellsFound IsTrueOf (λ db. ShowsOnly db s0) (LeavesOne left) (HasNoMeta s0) fault
-tells_left IsTrueOf s0 s1 left fault settled leaves up tells = record {
-  version = tells.version;
-  stays = λ db only meta has other d may. settled d up ((tells.stays db only meta has other).1 d (leaves d may)) ∙ ap (λ (x : Database). x.trees) (only up).2;
-  none = tells.none;
-}
+-- where no more is left than before, it is what was shown
+pub left_alone : (s : State) → IsSettled s → IsTrue s.is_open → (db : Database) → ShowsOnly db s → (left : Trees → Type 0) → ((d : Trees) → left d → s.may_leave d) → LeavesOne left db
+left_alone s settled up db only left less = λ d may. settled d up (less d may) ∙ ap (λ (x : Database). x.trees) (only up).2
 
-none_is_some : IsSome {T = ℕ} None → ⊥
-none_is_some e = absurd cc
+-- so it is, or what was made
+left_or : {Is : Database → Type 0} {may : Trees → Type 0} (db : Database) → LeavesOne may db → (d : Trees) → may d ⊎ AreTreesOf Is d → (d ≡ db.trees) ⊎ AreTreesOf Is d
+left_or db alone d (inl was) = inl (alone d was)
+left_or db alone d (inr made) = inr made
 
--- where no version was read, there is no table `meta`
-pub no_meta_here : (s0 s1 : State) → IsVersionRead s0 s1 (Ok None) → HasCleanDisk s1 → (db : Database) → ShowsOnly db s0 → (meta : List MetaRow) → HoldsMeta db meta → ⊥
-no_meta_here s0 s1 read clean db only meta has = none_is_some (read.some clean db only (has_its_meta db meta has))
+-- what follows of each way out
+pub by_found : (way : Way) (db : Database) (First Second : (Database → Type 0) → Type 0) → ((Is : Database → Type 0) → First Is → Second Is) → ByFound way db First → ByFound way db Second
+by_found way db First Second then (inl (tells, stays, it)) = inl (tells, stays, then _ it)
+by_found way db First Second then (inr (inl (tells, changes, it))) = inr (inl (tells, changes, λ rows any. then _ (it rows any)))
+by_found way db First Second then (inr (inr (tells, creates, it))) = inr (inr (tells, creates, λ emptied. then _ (it emptied)))
 
--- so there are no rows
-pub no_rows_here : (s0 s1 : State) → IsVersionRead s0 s1 (Ok None) → HasCleanDisk s1 → (db : Database) → ShowsOnly db s0 → (rows : DeskRows) → HoldsAny db rows → ⊥
-no_rows_here s0 s1 read clean db only rows any = no_meta_here s0 s1 read clean db only rows.meta (any_has_meta db rows any)
+-- what was done is all that is left
+pub done_left : {A : Type 0} (ways : A → Way) (a : A) (db : Database) (s : State) → IsDone (ways a) db s → IsLeft ways db s.may_leave
+done_left ways a db s (inl (up, found)) = inr (a, by_found (ways a) db (IsThere s) (MayBeLeft db s.may_leave) (λ Is it d may. inr (it.0, sym (it.3 d may), it.1)) found)
+done_left ways a db s (inr failed) = inl failed.3
 
--- ---- what a crash may leave
+-- no more is left of a store than of its connection
+pub left_less : {A : Type 0} (ways : A → Way) (db : Database) (may left : Trees → Type 0) → ((d : Trees) → left d → may d) → IsLeft ways db may → IsLeft ways db left
+left_less ways db may left less (inl alone) = inl (λ d is. alone d (less d is))
+left_less ways db may left less (inr (a, found)) = inr (a, by_found (ways a) db (MayBeLeft db may) (MayBeLeft db left) (λ Is it d is. it d (less d is)) found)
 
--- the version was read, and nothing was done
-pub spares_read : (Made : Database → DeskRows → Database → Type 0) (s0 s1 : State) (result : Result (Option ℕ) StoreFault) → IsVersionRead s0 s1 result → HasCleanDisk s1 → Spares Made (λ db. ShowsOnly db s0) (CouldLeave s0) s1.may_leave
-spares_read Made s0 s1 result read clean = record {
-  rows = λ db only rows any d may. inl (read.crash clean db only d may);
-  none = λ db only emptied d may. inl (read.crash clean db only d may);
-  kept = λ db only d may. inl (read.crash clean db only d may);
-}
+fault_less : {A : Type 0} (ways : A → Way) (db : Database) (may left : Trees → Type 0) → ((d : Trees) → left d → may d) → (fault : OpenFault) → IsFaultOf ways db may fault → IsFaultOf ways db left fault
+fault_less ways db may left less (Store e) is = is
+fault_less ways db may left less (OtherVersion found) (tells, alone, other) = (tells, λ d is. alone d (less d is), other)
 
--- there was none, and tables were to be made
-pub spares_created : (Made : Database → DeskRows → Database → Type 0) (s0 s1 s2 : State) (result : Result ⊤ StoreFault) → IsVersionRead s0 s1 (Ok None) → IsCreated s1 s2 result → HasCleanDisk s2
-    → Spares Made (λ db. ShowsOnly db s0) (CouldLeave s0) s2.may_leave
-spares_created Made s0 s1 s2 result read created clean = record {
-  rows = λ db only rows any. absurd (no_rows_here s0 s1 read (created.premise clean) db only rows any);
-  none = λ db only emptied d may. go db only emptied d (created.crash clean db (read.left (created.premise clean) db only) emptied d may);
-  kept = λ db only d may. inr (λ meta has. absurd (no_meta_here s0 s1 read (created.premise clean) db only meta has));
-}
-  where
-    go : (db : Database) → ShowsOnly db s0 → IsEmptied schema_0 db → (d : Trees) → s1.may_leave d ⊎ ((made : Database) × (made.trees ≡ d) × Holds made first_rows) → s0.may_leave d ⊎ AreTreesOf (λ made. Holds made first_rows) d
-    go db only emptied d (inl before) = inl (read.crash (created.premise clean) db only d before)
-    go db only emptied d (inr made) = inr made
+pub found_less : {A : Type 0} (ways : A → Way) (s0 : State) (may left : Trees → Type 0) (fault : OpenFault) → ((d : Trees) → left d → may d) → LeavesShown ways s0 may fault → LeavesShown ways s0 left fault
+found_less ways s0 may left fault less leaves = λ up db only. let it = leaves up db only in (left_less ways db may left less it.0, fault_less ways db may left less fault it.1)
 
--- what a crash leaves of a connection that was just opened is the database, or what was made of it
-pub spares_left : (Made : Database → DeskRows → Database → Type 0) (s0 s1 : State) (left : Trees → Type 0) → IsSettled s0 → ((d : Trees) → left d → s1.may_leave d) → IsTrue s0.is_open
-    → Spares Made (λ db. ShowsOnly db s0) (CouldLeave s0) s1.may_leave → Spares Made (λ db. ShowsOnly db s0) AreItsTrees left
-spares_left Made s0 s1 left settled leaves up spares = record {
-  rows = λ db only rows any d may. go db only _ d (spares.rows db only rows any d (leaves d may));
-  none = λ db only emptied d may. go db only _ d (spares.none db only emptied d (leaves d may));
-  kept = λ db only d may. go db only _ d (spares.kept db only d (leaves d may));
-}
-  where
-    go : (db : Database) → ShowsOnly db s0 → (Other : Type 0) (d : Trees) → s0.may_leave d ⊎ Other → (d ≡ db.trees) ⊎ Other
-    go db only Other d (inl was) = inl (settled d up was ∙ ap (λ (x : Database). x.trees) (only up).2)
-    go db only Other d (inr other) = inr other
+-- ---- the version alone was read
 
--- so it is of a store that leaves no more
-pub spares_less : (Made : Database → DeskRows → Database → Type 0) (Found : Database → Type 0) (may left : Trees → Type 0) → ((d : Trees) → left d → may d) → Spares Made Found AreItsTrees may → Spares Made Found AreItsTrees left
-spares_less Made Found may left leaves spares = record { rows = λ db found rows any d is. spares.rows db found rows any d (leaves d is); none = λ db found emptied d is. spares.none db found emptied d (leaves d is); kept = λ db found d is. spares.kept db found d (leaves d is) }
+failed_since : (old new : ℕ) → MoreFaults old new → MoreFaults 0 new
+failed_since old new more = omega (arith, more)
 
-pub keeps_rows : (db : Database) (s : State) (rows : DeskRows) → ShowsOnly db s → HoldsAny db rows → KeepsRows s rows
-keeps_rows db s rows only any = λ up. let is = only up in (is.0, subst (λ d. HoldsAny d rows) (sym is.1) any, subst (λ d. HoldsAny d rows) (sym is.2) any)
+module _ {A : Type 0} (ways : A → Way) (s0 s1 : State) (settled : IsSettled s0) where
+  left_read : {version : Result (Option ℕ) StoreFault} → IsVersionRead s0 s1 version → HasCleanDisk s1 → IsTrue s0.is_open → (db : Database) → ShowsOnly db s0 → LeavesOne s1.may_leave db
+  left_read read clean up db only = left_alone s0 settled up db only s1.may_leave (read.crash clean db only)
 
--- ---- ready
-
--- an index that is not missing
-not_missing : {A : Type 0} (b : Bool) → b ≡ true → b ≡ false → A
-not_missing b lacks has = absurd (let no : true ≡ false = sym lacks ∙ has in cc)
-
--- the tables are of version 2
-module _ (s0 s1 : State) (settled : IsSettled s0) (read : IsVersionRead s0 s1 (Ok (Some 2))) where
-  some_two : ◌≡◌ {A = Option ℕ} (Some 2) None → ⊥
-  some_two e = absurd cc
-
-  stored_here : HasCleanDisk s1 → (db : Database) → ShowsOnly db s0 → (L : List Request) → IsFoundFor db L → StoresRequests db L
-  stored_here clean db only L (inl it) = it
-  stored_here clean db only L (inr none) = absurd (some_two (read.absent clean db only (no_meta db none.0)))
-
-  -- nothing else is left
-  pub left_here : HasCleanDisk s1 → (db : Database) → ShowsOnly db s0 → LeavesOne s1.may_leave db
-  left_here clean db only = λ d may. settled d (read.was_open clean) (read.crash clean db only d may) ∙ ap (λ (x : Database). x.trees) (only (read.was_open clean)).2
-
-  pub alone_here : HasCleanDisk s1 → (db : Database) → ShowsOnly db s0 → (L : List Request) → IsFoundFor db L → (d : Trees) → s1.may_leave d → AreRowsOf d L
-  alone_here clean db only L found d may = (db, sym (left_here clean db only d may), stored_here clean db only L found)
-
-  -- an index is seen
-  has_index : HasCleanDisk s1 → lacks_index s1.now.schema ≡ false → (db : Database) → ShowsOnly db s0 → IsTrue s1.is_open → lacks_index db.schema ≡ false
-  has_index clean whole db only up = ap (λ (x : Database). lacks_index x.schema) (sym (read.left clean db only up).1) ∙ whole
-
-  -- so what is stored is what a desk holds
-  with_index : (db : Database) (L : List Request) → lacks_index db.schema ≡ false → StoresRequests db L → HoldsRequests db L
-  with_index db L whole (rows, inl held, stands) = (rows, held, stands)
-  with_index db L whole (rows, inr held, stands) = not_missing (lacks_index db.schema) (unindexed_lacks_index db rows held.0) whole
-
-  pub ready_as_found : lacks_index s1.now.schema ≡ false → IsReady s0 s1 (Ok tt)
-  ready_as_found whole = record {
+  -- it is of another version
+  pub became_other : (found : ℕ) → ((a : A) → ¬ (found ≡ (ways a).version)) → IsVersionRead s0 s1 (Ok (Some found)) → Becomes ways s0 s1 (Err (OtherVersion found))
+  became_other found other read = record {
     premise = read.premise;
-    ok = λ clean db only L found. λ up. keeps_found db L s1 (read.left clean db only) (with_index db L (has_index clean whole db only up) (stored_here clean db only L found)) up;
-    err = λ clean db only. tt;
-    fault = λ clean. tt;
-    crash = λ clean db only L found d may. inl (read.crash clean db only d may);
-    alone = alone_here;
-    is_open = read.is_open;
-    kept = λ clean db only has whole. (read.left clean db only, left_here clean db only);
-    told = λ clean db only meta has. (sym (read.present clean db only meta has), λ whole. left_here clean db only);
-    taken = λ clean db only rows any. (
-      sym (read.present clean db only rows.meta (any_has_meta db rows any)),
-      keeps_rows db s1 rows (read.left clean db only) any,
-      λ d may. (db, sym (left_here clean db only d may), any),
-    );
-    spares = spares_read MakesIndex s0 s1 (Ok (Some 2)) read;
+    done = λ clean up db only. tt;
+    left = λ clean up db only. (inl (left_read read clean up db only), (read.tells clean db only, left_read read clean up db only, other));
   }
 
--- of version 2, and the index is missing
-module _ (s0 s1 s2 : State) (read : IsVersionRead s0 s1 (Ok (Some 2))) (lacks : lacks_index s1.now.schema ≡ true) where
-  -- where the connection is open, the database that was found lacks it
-  lacks_here : HasCleanDisk s1 → (db : Database) → ShowsOnly db s0 → IsTrue s1.is_open → lacks_index db.schema ≡ true
-  lacks_here clean db only up = ap (λ (x : Database). lacks_index x.schema) (sym (read.left clean db only up).1) ∙ lacks
+  pub became_unread : (e : StoreFault) → IsVersionRead s0 s1 (Err e) → Becomes ways s0 s1 (Err (Store e))
+  became_unread e read = record {
+    premise = read.premise;
+    done = λ clean up db only. tt;
+    left = λ clean up db only. (inl (left_read read clean up db only), tt);
+  }
 
-  clean_read : (result : Result ⊤ StoreFault) → IsIndexed s1 s2 result → HasCleanDisk s2 → HasCleanDisk s1
-  clean_read result indexed = (indexed first_rows).premise
-
-  some_differs : ◌≡◌ {A = Option ℕ} (Some 2) None → ⊥
-  some_differs e = absurd cc
-
-  never_empty : HasCleanDisk s1 → (db : Database) → ShowsOnly db s0 → IsEmptied schema_0 db → ⊥
-  never_empty clean db only emptied = some_differs (read.absent clean db only (no_meta db emptied))
-
-  -- it is one of version 2 without it
-  unindexed_here : HasCleanDisk s1 → (db : Database) → ShowsOnly db s0 → IsTrue s1.is_open → (rows : DeskRows) → HoldsAny db rows → HoldsUnindexed db rows
-  unindexed_here clean db only up rows (inl (inl held)) = not_missing (lacks_index db.schema) (lacks_here clean db only up) (second_has_index db rows held)
-  unindexed_here clean db only up rows (inl (inr held)) = held.0
-  unindexed_here clean db only up rows (inr held) = not_missing (lacks_index db.schema) (lacks_here clean db only up) (first_lacks_more db rows held)
-
-  -- a crash leaves what it could leave before, or the rows with the index
-  index_spares : (result : Result ⊤ StoreFault) → IsIndexed s1 s2 result → HasCleanDisk s2 → (db : Database) → ShowsOnly db s0 → (rows : DeskRows) → HoldsAny db rows → (d : Trees) → s2.may_leave d
-      → s0.may_leave d ⊎ AreTreesOf (MakesIndex db rows) d
-  index_spares result indexed clean db only rows any d may = go ((indexed rows).spares clean d may)
+  -- it is of this version, and stays
+  pub became_same : (a : A) → ((db : Database) → s1.now ≡ db → (ways a).stays db) → IsVersionRead s0 s1 (Ok (Some (ways a).version)) → Becomes ways s0 s1 (Ok a)
+  became_same a stays read = record { premise = read.premise; done = λ clean up db only. done clean up db only s1.is_open refl; left = λ clean. tt }
     where
-      clean1 : HasCleanDisk s1
-      clean1 = clean_read result indexed clean
+      failed : IsTrue s1.is_open ⊎ MoreFaults s0.faults s1.faults → s1.is_open ≡ false → MoreFaults 0 s1.faults
+      failed (inl now) shut = no_bool _ now shut
+      failed (inr more) shut = failed_since s0.faults s1.faults more
 
-      made : HoldsUnindexed db rows → s1.may_leave d ⊎ ((it : Database) × (it.trees ≡ d) × Holds it rows) → s0.may_leave d ⊎ AreTreesOf (MakesIndex db rows) d
-      made un (inl before) = inl (read.crash clean1 db only d before)
-      made un (inr it) = inr (it.0, it.1, (un, it.2))
+      done : HasCleanDisk s1 → IsTrue s0.is_open → (db : Database) → ShowsOnly db s0 → (b : Bool) → s1.is_open ≡ b → IsDone (ways a) db s1
+      done clean up db only true now =
+          let shown = read.left clean db only in inl (now, inl (read.tells clean db only, stays db (shown now).1, (db, refl, shown, left_read read clean up db only)))
+      done clean up db only false shut = inr (shut, failed (read.is_open clean) shut, read.tells clean db only, left_read read clean up db only)
 
-      go : s1.may_leave d ⊎ IsTrue s1.is_open → s0.may_leave d ⊎ AreTreesOf (MakesIndex db rows) d
-      go (inl before) = inl (read.crash clean1 db only d before)
-      go (inr up) = let un = unindexed_here clean1 db only up rows any in made un ((indexed rows).crash clean db (read.left clean1 db only) un d may)
+-- ---- tables were made
 
-  spares_indexed : (result : Result ⊤ StoreFault) → IsIndexed s1 s2 result → HasCleanDisk s2 → Spares MakesIndex (λ db. ShowsOnly db s0) (CouldLeave s0) s2.may_leave
-  spares_indexed result indexed clean = record {
-    rows = index_spares result indexed clean;
-    none = λ db only emptied. absurd (never_empty (clean_read result indexed clean) db only emptied);
-    kept = λ db only d may. go db only d ((indexed first_rows).spares clean d may);
-  }
+module _ {A : Type 0} (ways : A → Way) (a : A) (s0 s1 s2 : State) (settled : IsSettled s0) where
+  -- in a database that had none
+  module _ (creates : (ways a).creates) (read : IsVersionRead s0 s1 (Ok None)) where
+    pub became_created : IsCreated s1 s2 (Ok tt) → Becomes ways s0 s2 (Ok a)
+    became_created created = record { premise = λ clean. read.premise (created.premise clean); done = done; left = λ clean. tt }
+      where
+        done : HasCleanDisk s2 → IsTrue s0.is_open → (db : Database) → ShowsOnly db s0 → IsDone (ways a) db s2
+        done clean up db only =
+            let clean1 = created.premise clean in
+            let sure = created.alone clean in
+            inl (
+              sure.0,
+              inr (inr (
+                read.tells clean1 db only,
+                creates,
+                λ emptied.
+                    let it = created.ok clean db (read.left clean1 db only) emptied in (it.0, it.2, it.1, λ d may. sure.1 d may ∙ ap (λ (x : Database). x.trees) (it.1 sure.0).2),
+              )),
+            )
+
+    pub became_uncreated : (e : StoreFault) → IsCreated s1 s2 (Err e) → Becomes ways s0 s2 (Err (Store e))
+    became_uncreated e created = record { premise = λ clean. read.premise (created.premise clean); done = λ clean up db only. tt; left = λ clean up db only. (left clean up db only, tt) }
+      where
+        left : HasCleanDisk s2 → IsTrue s0.is_open → (db : Database) → ShowsOnly db s0 → IsLeft ways db s2.may_leave
+        left clean up db only =
+            let clean1 = created.premise clean in
+            inr (a, inr (inr (read.tells clean1 db only, creates, λ emptied d may. left_or db (left_read ways s0 s1 settled read clean1 up db only) d (created.crash clean db (read.left clean1 db only) emptied d may))))
+
+  -- of the rows of one of this version
+  module _ (read : IsVersionRead s0 s1 (Ok (Some (ways a).version))) where
+    pub became_changed : (HasCleanDisk s2 → HasCleanDisk s1) → (HasCleanDisk s2 → IsTrue s2.is_open × ((d : Trees) → s2.may_leave d → d ≡ s2.committed.trees)) → (HasCleanDisk s2 → (db : Database) → ShowsOnly db s1 → (ways a).changes db)
+        → (HasCleanDisk s2 → (db : Database) → ShowsOnly db s1 → Tells db (Some (ways a).version) → (rows : DeskRows) → HoldsAny db rows → (made : Database) × ShowsOnly made s2 × (ways a).made db rows made) → Becomes ways s0 s2 (Ok a)
+    became_changed clean1 sure changes made = record { premise = λ clean. read.premise (clean1 clean); done = done; left = λ clean. tt }
+      where
+        done : HasCleanDisk s2 → IsTrue s0.is_open → (db : Database) → ShowsOnly db s0 → IsDone (ways a) db s2
+        done clean up db only =
+            let shown = read.left (clean1 clean) db only in
+            inl (
+              (sure clean).0,
+              inr (inl (
+                read.tells (clean1 clean) db only,
+                changes clean db shown,
+                λ rows any.
+                    let it = made clean db shown (read.tells (clean1 clean) db only) rows any in (it.0, it.2, it.1, λ d may. (sure clean).1 d may ∙ ap (λ (x : Database). x.trees) (it.1 (sure clean).0).2),
+              )),
+            )
+
+    pub became_unchanged : (e : StoreFault) → (HasCleanDisk s2 → HasCleanDisk s1) → (HasCleanDisk s2 → (db : Database) → ShowsOnly db s1 → Tells db (Some (ways a).version) → ((d : Trees) → s2.may_leave d → s1.may_leave d)
+        ⊎ ((ways a).changes db × ((rows : DeskRows) → HoldsAny db rows → (d : Trees) → s2.may_leave d → s1.may_leave d ⊎ AreTreesOf ((ways a).made db rows) d))) → Becomes ways s0 s2 (Err (Store e))
+    became_unchanged e clean1 leaves = record {
+      premise = λ clean. read.premise (clean1 clean);
+      done = λ clean up db only. tt;
+      left = λ clean up db only. (left clean up db only (leaves clean db (read.left (clean1 clean) db only) (read.tells (clean1 clean) db only)), tt);
+    }
+      where
+        left : HasCleanDisk s2 → IsTrue s0.is_open → (db : Database) → ShowsOnly db s0
+            → ((d : Trees) → s2.may_leave d → s1.may_leave d) ⊎ ((ways a).changes db × ((rows : DeskRows) → HoldsAny db rows → (d : Trees) → s2.may_leave d → s1.may_leave d ⊎ AreTreesOf ((ways a).made db rows) d)) → IsLeft ways db s2.may_leave
+        left clean up db only (inl less) = inl (λ d may. left_read ways s0 s1 settled read (clean1 clean) up db only d (less d may))
+        left clean up db only (inr (changes, made)) =
+            inr (a, inr (inl (read.tells (clean1 clean) db only, changes, λ rows any d may. left_or db (left_read ways s0 s1 settled read (clean1 clean) up db only) d (made rows any d may))))
+
+-- ---- the index was made
+
+-- a database that lacks it has its rows without
+unindexed : (db : Database) → lacks_index db.schema ≡ true → (rows : DeskRows) → HoldsAny db rows → HoldsUnindexed db rows
+unindexed db lacks rows (inl (inl held)) = no_bool _ lacks (second_has_index db rows held)
+unindexed db lacks rows (inl (inr held)) = held.0
+unindexed db lacks rows (inr held) = no_bool _ lacks (first_lacks_more db rows held)
+
+module _ (s0 s1 s2 : State) (settled : IsSettled s0) (read : IsVersionRead s0 s1 (Ok (Some 2))) (lacks : lacks_index s1.now.schema ≡ true) where
+  lacks_here : (db : Database) → ShowsOnly db s1 → IsTrue s1.is_open → lacks_index db.schema ≡ true
+  lacks_here db shown up = ap (λ (x : Database). lacks_index x.schema) (sym (shown up).1) ∙ lacks
+
+  pub became_indexed : IsIndexed s1 s2 (Ok tt) → Becomes opening s0 s2 (Ok tt)
+  became_indexed indexed = became_changed opening tt s0 s1 s2 settled read (indexed first_rows).premise (indexed first_rows).alone (λ clean db shown. lacks_here db shown ((indexed first_rows).was_open clean))
+      (λ clean db shown tells rows any. let un = unindexed db (lacks_here db shown ((indexed first_rows).was_open clean)) rows any in let it = (indexed rows).ok clean db shown un in (it.0, it.1, (un, it.2)))
+
+  pub became_unindexed : (e : StoreFault) → IsIndexed s1 s2 (Err e) → Becomes opening s0 s2 (Err (Store e))
+  became_unindexed e indexed = became_unchanged opening tt s0 s1 s2 settled read e (indexed first_rows).premise (λ clean db shown tells. go clean db shown (lacks_index db.schema) refl)
     where
-      go : (db : Database) → ShowsOnly db s0 → (d : Trees) → s1.may_leave d ⊎ IsTrue s1.is_open → s0.may_leave d ⊎ MayBecomeDesk db
-      go db only d (inl before) = inl (read.crash (clean_read result indexed clean) db only d before)
-      go db only d (inr up) = inr (λ meta has. inr (lacks_here (clean_read result indexed clean) db only up))
+      shut : HasCleanDisk s2 → (db : Database) → ShowsOnly db s1 → lacks_index db.schema ≡ false → (d : Trees) → s1.may_leave d ⊎ IsTrue s1.is_open → s1.may_leave d
+      shut clean db shown whole d (inl was) = was
+      shut clean db shown whole d (inr up) = no_bool _ (lacks_here db shown up) whole
 
-  crash_indexed : (result : Result ⊤ StoreFault) → IsIndexed s1 s2 result → HasCleanDisk s2 → (db : Database) → ShowsOnly db s0 → (L : List Request) → IsFoundFor db L → (d : Trees) → s2.may_leave d → s0.may_leave d ⊎ AreRowsOf d L
-  crash_indexed result indexed clean db only L found d may = go found
-    where
-      with_rows : (rows : DeskRows) → StandsFor rows L → s0.may_leave d ⊎ AreTreesOf (MakesIndex db rows) d → s0.may_leave d ⊎ AreRowsOf d L
-      with_rows rows stands (inl before) = inl before
-      with_rows rows stands (inr (it, same, (lacked, held))) = inr (it, same, (rows, inl held, stands))
+      with_index : (db : Database) (rows : DeskRows) → HoldsUnindexed db rows → (d : Trees) → s1.may_leave d ⊎ AreTreesOf (λ now. Holds now rows) d → s1.may_leave d ⊎ AreTreesOf (MakesIndex db rows) d
+      with_index db rows un d (inl was) = inl was
+      with_index db rows un d (inr (now, same, held)) = inr (now, same, (un, held))
 
-      go : IsFoundFor db L → s0.may_leave d ⊎ AreRowsOf d L
-      go (inl (rows, held, stands)) = with_rows rows stands (index_spares result indexed clean db only rows (inl held) d may)
-      go (inr none) = absurd (never_empty (clean_read result indexed clean) db only none.0)
+      go : HasCleanDisk s2 → (db : Database) → ShowsOnly db s1 → (b : Bool) → lacks_index db.schema ≡ b
+          → ((d : Trees) → s2.may_leave d → s1.may_leave d) ⊎ ((lacks_index db.schema ≡ true) × ((rows : DeskRows) → HoldsAny db rows → (d : Trees) → s2.may_leave d → s1.may_leave d ⊎ AreTreesOf (MakesIndex db rows) d))
+      go clean db shown false whole = inl (λ d may. shut clean db shown whole d ((indexed first_rows).spares clean d may))
+      go clean db shown true is = inr (is, λ rows any d may. let un = unindexed db is rows any in with_index db rows un d ((indexed rows).crash clean db shown un d may))
 
-  -- the rows stay, with the index
-  indexed_now : IsIndexed s1 s2 (Ok tt) → HasCleanDisk s2 → (db : Database) → ShowsOnly db s0 → (rows : DeskRows) → HoldsAny db rows → (made : Database) × ShowsOnly made s2 × Holds made rows
-  indexed_now indexed clean db only rows any =
-      let clean1 = clean_read (Ok tt) indexed clean in
-      (indexed rows).ok clean db (read.left clean1 db only) (unindexed_here clean1 db only ((indexed rows).was_open clean) rows any)
+-- ---- against lists of requests
 
-  requests_now : IsIndexed s1 s2 (Ok tt) → HasCleanDisk s2 → (db : Database) → ShowsOnly db s0 → (L : List Request) → IsFoundFor db L → (made : Database) × ShowsOnly made s2 × HoldsRequests made L
-  requests_now indexed clean db only L (inl (rows, held, stands)) = let it = indexed_now indexed clean db only rows (inl held) in (it.0, it.1, (rows, it.2, stands))
-  requests_now indexed clean db only L (inr none) = absurd (never_empty (clean_read (Ok tt) indexed clean) db only none.0)
+pub keeps_found : (db : Database) (L : List Request) (s : State) → ShowsOnly db s → HoldsRequests db L → KeepsRequests s L
+keeps_found db L s only held = λ up. let is = only up in (is.0, subst (λ d. HoldsRequests d L) (sym is.1) held, subst (λ d. HoldsRequests d L) (sym is.2) held)
 
-  -- so that is all that a crash leaves
-  left_now : IsIndexed s1 s2 (Ok tt) → HasCleanDisk s2 → (made : Database) → ShowsOnly made s2 → LeavesOne s2.may_leave made
-  left_now indexed clean made only = λ d may. let sure = (indexed first_rows).alone clean in sure.1 d may ∙ ap (λ (x : Database). x.trees) (only sure.0).2
+-- a database that tells version 2 is of the requests by its rows
+pub tells_stored : (db : Database) (L : List Request) → Tells db (Some 2) → IsFoundFor db L → StoresRequests db L
+tells_stored db L tells (inl held) = held
+tells_stored db L tells (inr none) = tells_both db 2 tells (no_meta db none.0)
 
-  pub ready_indexed : IsIndexed s1 s2 (Ok tt) → IsReady s0 s2 (Ok tt)
-  ready_indexed indexed = record {
-    premise = λ clean. read.premise (clean_read (Ok tt) indexed clean);
-    ok = λ clean db only L found. let it = requests_now indexed clean db only L found in keeps_found it.0 L s2 it.1 it.2;
-    err = λ clean db only. tt;
-    fault = λ clean. tt;
-    crash = crash_indexed (Ok tt) indexed;
-    alone = λ clean db only L found. λ d may. let it = requests_now indexed clean db only L found in (it.0, sym (left_now indexed clean it.0 it.1 d may), stored it.0 L it.2);
-    is_open = λ clean. inl ((indexed first_rows).alone clean).0;
-    kept = λ clean db only has whole. not_missing (lacks_index db.schema) (lacks_here (clean_read (Ok tt) indexed clean) db only ((indexed first_rows).was_open clean)) whole;
-    told = λ clean db only meta has. (
-      sym (read.present (clean_read (Ok tt) indexed clean) db only meta has),
-      λ whole. not_missing (lacks_index db.schema) (lacks_here (clean_read (Ok tt) indexed clean) db only ((indexed first_rows).was_open clean)) whole,
-    );
-    taken = λ clean db only rows any.
-        let it = indexed_now indexed clean db only rows any in (
-          sym (read.present (clean_read (Ok tt) indexed clean) db only rows.meta (any_has_meta db rows any)),
-          keeps_rows it.0 s2 rows it.1 (inl (inl it.2)),
-          λ d may. (it.0, sym (left_now indexed clean it.0 it.1 d may), inl (inl it.2)),
-        );
-    spares = spares_indexed (Ok tt) indexed;
-  }
+-- one that tells none has no table
+pub tells_emptied : (db : Database) (L : List Request) → Tells db None → IsFoundFor db L → IsEmptied schema_0 db × (L ≡ [])
+tells_emptied db L tells (inl held) = tells_no_rows db held.0 tells (inl held.1)
+tells_emptied db L tells (inr none) = none
 
-  pub ready_unindexed : (e : StoreFault) → IsIndexed s1 s2 (Err e) → IsReady s0 s2 (Err (Store e))
-  ready_unindexed e indexed = record {
-    premise = λ clean. read.premise (clean_read (Err e) indexed clean);
-    ok = λ clean db only L found. tt;
-    err = λ clean db only. (indexed first_rows).err clean db (read.left (clean_read (Err e) indexed clean) db only);
-    fault = λ clean. tells_store IsFaultFor (λ db. ShowsOnly db s0) (StaysShown s0 s2) (HasNoMeta s0) e (λ meta. tt);
-    crash = crash_indexed (Err e) indexed;
-    alone = λ clean db only L found. tt;
-    is_open = λ clean. tt;
-    kept = λ clean db only has whole. tt;
-    told = λ clean db only meta has. tt;
-    taken = λ clean db only rows any. tt;
-    spares = spares_indexed (Err e) indexed;
-  }
+pub first_requests : (made : Database) (L : List Request) → L ≡ [] → Holds made first_rows → HoldsRequests made L
+first_requests made L none held = subst (HoldsRequests made) (sym none) (first_rows, held, first_stand)
 
--- they are of another version
-pub ready_other : (s0 s1 : State) (found : ℕ) → ¬ (found ≡ 2) → IsVersionRead s0 s1 (Ok (Some found)) → IsReady s0 s1 (Err (OtherVersion found))
-ready_other s0 s1 found other read = record {
-  premise = read.premise;
-  ok = λ clean db only L it. tt;
-  err = read.left;
-  fault = λ clean. tells_other IsFaultFor s0 s1 found read clean (λ meta is. (is, other));
-  crash = λ clean db only L it d may. inl (read.crash clean db only d may);
-  alone = λ clean db only L it. tt;
-  is_open = λ clean. tt;
-  kept = λ clean db only has whole. tt;
-  told = λ clean db only meta has. tt;
-  taken = λ clean db only rows any. tt;
-  spares = spares_read MakesIndex s0 s1 (Ok (Some found)) read;
-}
+-- what is shown is of the requests, and so is all that is left
+abbrev pub IsOf : List Request → State → Type 0
+IsOf L s = KeepsRequests s L × ((d : Trees) → s.may_leave d → AreRowsOf d L)
 
-pub ready_unread : (s0 s1 : State) (e : StoreFault) → IsVersionRead s0 s1 (Err e) → IsReady s0 s1 (Err (Store e))
-ready_unread s0 s1 e read = record {
-  premise = read.premise;
-  ok = λ clean db only L it. tt;
-  err = read.left;
-  fault = λ clean. tells_store IsFaultFor (λ db. ShowsOnly db s0) (StaysShown s0 s1) (HasNoMeta s0) e (λ meta. tt);
-  crash = λ clean db only L it d may. inl (read.crash clean db only d may);
-  alone = λ clean db only L it. tt;
-  is_open = λ clean. tt;
-  kept = λ clean db only has whole. tt;
-  told = λ clean db only meta has. tt;
-  taken = λ clean db only rows any. tt;
-  spares = spares_read MakesIndex s0 s1 (Err e) read;
-}
+is_of : (now : Database) (L : List Request) (s : State) → ShowsOnly now s → LeavesOne s.may_leave now → HoldsRequests now L → IsOf L s
+is_of now L s shown alone held = (keeps_found now L s shown held, λ d may. (now, sym (alone d may), stored now L held))
 
--- there are none, and they are made
-module _ (s0 s1 s2 : State) (read : IsVersionRead s0 s1 (Ok None)) where
-  differ : ◌≡◌ {A = Option ℕ} None (Some 2) → ⊥
-  differ e = absurd cc
+with_its_index : (db : Database) (L : List Request) → lacks_index db.schema ≡ false → StoresRequests db L → HoldsRequests db L
+with_its_index db L whole (rows, inl held, stands) = (rows, held, stands)
+with_its_index db L whole (rows, inr held, stands) = no_bool _ (unindexed_lacks_index db rows held.0) whole
 
-  -- so the database is empty, and the list too
-  emptied_here : HasCleanDisk s1 → (db : Database) → ShowsOnly db s0 → (L : List Request) → IsFoundFor db L → IsEmptied schema_0 db × (L ≡ [])
-  emptied_here clean db only L (inl held) = absurd (differ (read.present clean db only held.0.meta (any_has_meta db held.0 (inl held.1)) ∙ version_stands 2 held.0 L held.2))
-  emptied_here clean db only L (inr none) = none
+pub done_stands : (db : Database) (L : List Request) (s : State) → IsDone (opening tt) db s → IsFoundFor db L → IsOf L s
+done_stands db L s (inl (up, inl (tells, whole, (now, is, shown, alone)))) found =
+    is_of now L s shown alone (subst (λ x. HoldsRequests x L) (sym is) (with_its_index db L whole (tells_stored db L tells found)))
+done_stands db L s (inl (up, inr (inl (tells, lacks, made)))) found =
+    let (rows, held, stands) = tells_stored db L tells found in let it = made rows (inl held) in is_of it.0 L s it.2 it.3 (rows, it.1.1, stands)
+done_stands db L s (inl (up, inr (inr (tells, creates, made)))) found =
+    let none = tells_emptied db L tells found in let it = made none.0 in is_of it.0 L s it.2 it.3 (first_requests it.0 L none.1 it.1)
+done_stands db L s (inr (shut, more, tells, alone)) found = (λ up. no_bool _ up shut, λ d may. (db, sym (alone d may), tells_stored db L tells found))
 
-  first_requests : (made : Database) (L : List Request) → L ≡ [] → Holds made first_rows → HoldsRequests made L
-  first_requests made L none held = subst (HoldsRequests made) (sym none) (first_rows, held, first_stand)
+-- what is left is what was found, or its rows with the index, or the tables of no request
+pub left_stands : (db : Database) (left : Trees → Type 0) → IsLeft opening db left → (L : List Request) → IsFoundFor db L → (d : Trees) → left d → (d ≡ db.trees) ⊎ AreRowsOf d L
+left_stands db left (inl alone) L found d may = inl (alone d may)
+left_stands db left (inr (a, inl (tells, stays, ends))) L found d may = same (ends d may)
+  where
+    same : (d ≡ db.trees) ⊎ AreTreesOf (λ now. now ≡ db) d → (d ≡ db.trees) ⊎ AreRowsOf d L
+    same (inl is) = inl is
+    same (inr (now, is, it)) = inl (sym is ∙ ap (λ (x : Database). x.trees) it)
+left_stands db left (inr (a, inr (inl (tells, changes, ends)))) L found d may = let stored = tells_stored db L tells found in changed stored (ends stored.0 (inl stored.1) d may)
+  where
+    changed : (stored : StoresRequests db L) → (d ≡ db.trees) ⊎ AreTreesOf (MakesIndex db stored.0) d → (d ≡ db.trees) ⊎ AreRowsOf d L
+    changed stored (inl is) = inl is
+    changed stored (inr (now, is, made)) = inr (now, is, (stored.0, inl made.1, stored.2))
+left_stands db left (inr (a, inr (inr (tells, creates, ends)))) L found d may = let none = tells_emptied db L tells found in created none.1 (ends none.0 d may)
+  where
+    created : L ≡ [] → (d ≡ db.trees) ⊎ AreTreesOf (λ now. Holds now first_rows) d → (d ≡ db.trees) ⊎ AreRowsOf d L
+    created none (inl is) = inl is
+    created none (inr (now, is, held)) = inr (now, is, stored now L (first_requests now L none held))
 
-  crash_here : (result : Result ⊤ StoreFault) → IsCreated s1 s2 result → HasCleanDisk s2 → (db : Database) → ShowsOnly db s0 → (L : List Request) → IsFoundFor db L → (d : Trees) → s2.may_leave d → s0.may_leave d ⊎ AreRowsOf d L
-  crash_here result created clean db only L it d may = go (created.crash clean db (read.left clean1 db only) none.0 d may)
-    where
-      clean1 : HasCleanDisk s1
-      clean1 = created.premise clean
-
-      none : IsEmptied schema_0 db × (L ≡ [])
-      none = emptied_here clean1 db only L it
-
-      go : s1.may_leave d ⊎ ((made : Database) × (made.trees ≡ d) × Holds made first_rows) → s0.may_leave d ⊎ AreRowsOf d L
-      go (inl before) = inl (read.crash clean1 db only d before)
-      go (inr first) = inr (first.0, first.1, stored first.0 L (first_requests first.0 L none.1 first.2))
-
-  pub ready_created : IsCreated s1 s2 (Ok tt) → IsReady s0 s2 (Ok tt)
-  ready_created created = record {
-    premise = λ clean. read.premise (created.premise clean);
-    ok = λ clean db only L it. (now clean db only L it).1;
-    err = λ clean db only. tt;
-    fault = λ clean. tt;
-    crash = crash_here (Ok tt) created;
-    alone = λ clean db only L it. λ d may.
-        let done = now clean db only L it in
-        let sure = created.alone clean in
-        (done.0, sym (sure.1 d may ∙ ap (λ (x : Database). x.trees) (done.2.0 sure.0).2), stored done.0 L done.2.1);
-    is_open = λ clean. inl (created.alone clean).0;
-    kept = λ clean db only has whole. absurd (none_is_some (read.some (created.premise clean) db only has));
-    told = λ clean db only meta has. absurd (no_meta_here s0 s1 read (created.premise clean) db only meta has);
-    taken = λ clean db only rows any. absurd (no_rows_here s0 s1 read (created.premise clean) db only rows any);
-    spares = spares_created MakesIndex s0 s1 s2 (Ok tt) read created;
-  }
-    where
-      now : HasCleanDisk s2 → (db : Database) → ShowsOnly db s0 → (L : List Request) → IsFoundFor db L → (made : Database) × KeepsRequests s2 L × (ShowsOnly made s2 × HoldsRequests made L)
-      now clean db only L it =
-          let clean1 = created.premise clean in
-          let none = emptied_here clean1 db only L it in
-          let ok = created.ok clean db (read.left clean1 db only) none.0 in
-          let held = first_requests ok.0 L none.1 ok.2 in
-          (ok.0, keeps_found ok.0 L s2 ok.1 held, (ok.1, held))
-
-  pub ready_uncreated : (e : StoreFault) → IsCreated s1 s2 (Err e) → IsReady s0 s2 (Err (Store e))
-  ready_uncreated e created = record {
-    premise = λ clean. read.premise (created.premise clean);
-    ok = λ clean db only L it. tt;
-    err = λ clean db only. created.err clean db (read.left (created.premise clean) db only);
-    fault = λ clean. tells_store IsFaultFor (λ db. ShowsOnly db s0) (StaysShown s0 s2) (HasNoMeta s0) e (λ meta. tt);
-    crash = crash_here (Err e) created;
-    alone = λ clean db only L it. tt;
-    is_open = λ clean. tt;
-    kept = λ clean db only has whole. tt;
-    told = λ clean db only meta has. tt;
-    taken = λ clean db only rows any. tt;
-    spares = spares_created MakesIndex s0 s1 s2 (Err e) read created;
-  }
+-- what was opened for a desk tells version 2 or none
+pub done_tells : (db : Database) (s : State) → IsDone (opening tt) db s → Tells db None ⊎ Tells db (Some 2)
+done_tells db s (inl (up, inl (tells, stays, found))) = inr tells
+done_tells db s (inl (up, inr (inl (tells, changes, found)))) = inr tells
+done_tells db s (inl (up, inr (inr (tells, creates, found)))) = inl tells
+done_tells db s (inr (shut, more, tells, alone)) = inr tells

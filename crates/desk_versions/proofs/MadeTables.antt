@@ -1,5 +1,5 @@
 -- Tables that are made in one transaction: all at once or not at all.
-use Rattle.std.proofs.Common.{◌≡◌, ◌≤◌, ◌⊎◌, inl, inr, ℕ, Bool, true, false, List, [], None, Option, Ok, Err, Result, IfOk, OnOk, IsTrue, sym, ◌∙◌, subst, arith}
+use Rattle.std.proofs.Common.{◌≡◌, ◌≤◌, ◌⊎◌, inl, inr, ℕ, Bool, true, false, List, [], None, Some, Option, Ok, Err, Result, IfOk, OnOk, IsTrue, refl, sym, ◌∙◌, subst, arith}
 use Rattle.std.specs.List.{list_any}
 use Rattle.std.specs.Prelude.{IsSome, ⊤}
 use Rattle.sqlite.specs.Effect.{Database}
@@ -11,7 +11,7 @@ use Rattle.desk_tables.specs.Rows.{MetaRow}
 use Rattle.desk_tables.specs.Schema.{is_meta}
 use Rattle.desk_tables.specs.Transactions.{BeginsWork, EndsWork, IsUndone, LeavesOnly, Makes, NoTrees}
 use Rattle.onix_records.specs.declared.faults.StoreFault.{StoreFault}
-use Rattle.desk_versions.specs.Openings.{IsVersionRead, MakesAll, ShowsOnly}
+use Rattle.desk_versions.specs.Openings.{AreTreesOf, IsVersionRead, MakesAll, ShowsOnly, Tells}
 
 -- ---- a transaction, by what was shown before it
 
@@ -59,6 +59,25 @@ on_ok : {A E P : Type 0} (r : Result A E) → P → OnOk r P
 on_ok (Ok a) p = p
 on_ok (Err e) p = tt
 
+none_is_some : IsSome {T = ℕ} None → ⊥
+none_is_some e = absurd cc
+
+some_is_none : (n : ℕ) → ◌≡◌ {A = Option ℕ} (Some n) None → ⊥
+some_is_none n e = absurd cc
+
+-- the version of a database that has no table `meta`, or has one
+tells_as : (db : Database) (version : Option ℕ) → (list_any is_meta db.schema.tables ≡ false → version ≡ None) → (list_any is_meta db.schema.tables ≡ true → IsSome version) → ((meta : List MetaRow) → HoldsMeta db meta → version ≡ version_among meta)
+    → (b : Bool) → list_any is_meta db.schema.tables ≡ b → Tells db version
+tells_as db None absent present tells false none = none
+tells_as db None absent present tells true has = absurd (none_is_some (present has))
+tells_as db (Some n) absent present tells false none = absurd (some_is_none n (absent none))
+tells_as db (Some n) absent present tells true has = (has, λ meta held. sym (tells meta held))
+
+tells_read : (db : Database) (result : Result (Option ℕ) StoreFault) → (list_any is_meta db.schema.tables ≡ false → IfOk result (λ version. version ≡ None)) → (list_any is_meta db.schema.tables ≡ true → IfOk result (λ version. IsSome version))
+    → ((meta : List MetaRow) → HoldsMeta db meta → IfOk result (λ version. version ≡ version_among meta)) → IfOk result (Tells db)
+tells_read db (Ok version) absent present tells = tells_as db version absent present tells (list_any is_meta db.schema.tables) refl
+tells_read db (Err e) absent present tells = tt
+
 module _ {W : Type 0} (w : W) (s0 s1 s2 s3 : State) (was now : Bool) (result : Result (Option ℕ) StoreFault) (begins : BeginsWork {A = W} {E = StoreFault} s0 s1 (Ok w))
     (absent : list_any is_meta s1.now.schema.tables ≡ false → IfOk result (λ version. version ≡ None))
     (present : list_any is_meta s1.now.schema.tables ≡ true → IfOk result (λ version. IsSome version)) (tells : HasCleanDisk s2 → (meta : List MetaRow) → HoldsMeta s1.now meta → IfOk result (λ version. version ≡ version_among meta))
@@ -78,11 +97,8 @@ module _ {W : Type 0} (w : W) (s0 s1 s2 s3 : State) (was now : Bool) (result : R
   pub version_read : IsVersionRead s0 s3 result
   version_read = record {
     premise = λ clean. read_clean0 (read_clean1 (read_clean2 clean));
-    was_open = λ clean. on_ok result (begins.begun (read_clean1 (read_clean2 clean))).0.was_open;
     is_open = λ clean. on_ok result (still clean (begins.begun (read_clean1 (read_clean2 clean))).0.was_open);
-    absent = λ clean db only none. absent (subst (λ (x : Database). list_any is_meta x.schema.tables ≡ false) (sym (begun clean db only).now) none);
-    some = λ clean db only has. present (subst (λ (x : Database). list_any is_meta x.schema.tables ≡ true) (sym (begun clean db only).now) has);
-    present = λ clean db only meta has. tells (read_clean2 clean) meta (subst (λ x. HoldsMeta x meta) (sym (begun clean db only).now) has);
+    tells = λ clean db only. subst (λ (x : Database). IfOk result (Tells x)) (begun clean db only).now (tells_read s1.now result absent present (tells (read_clean2 clean)));
     left = λ clean db only. undone_on db s1 s2 s3 (begun clean db only).committed ((keeps []).kept (read_clean2 clean)) (undone clean);
     crash = λ clean db only d may. (begun clean db only).crash d (either ((keeps []).survives.crash (read_clean2 clean) d (either (survives.crash clean d may))));
   }
@@ -119,7 +135,6 @@ module _ (Before After : Database → Type 0) {W : Type 0} (w : W) (s0 s1 s2 s3 
       (record {
         premise = λ clean. clean0 (clean1 (clean2 clean));
         ok = λ clean db only held. tt;
-        err = λ clean db only. undone_on db s1 s2 s3 (begun_on w db s0 s1 (clean1 (clean2 clean)) begins only).committed (makes.kept (clean2 clean)) (undone clean);
         crash = λ clean db only held d may. inl (crash_made (clean2 clean) db only d (either (survives.crash clean d may)));
         alone = λ clean. tt;
         was_open = λ clean. tt;
@@ -132,13 +147,13 @@ module _ (Before After : Database → Type 0) {W : Type 0} (w : W) (s0 s1 s2 s3 
   made_now : (b : ⊤) → made ≡ Ok b → HasCleanDisk s2 → (db : Database) → ShowsOnly db s0 → Before db → After s2.now
   made_now b is clean db only held = subst (λ r. OnOk r (After s2.now)) is (makes.made clean (started (clean1 clean) db only held))
 
-  crash_ended : (b : ⊤) → made ≡ Ok b → {B : Type 0} (result : Result B StoreFault) → EndsWork s2 s3 now result → HasCleanDisk s3 → (db : Database) → ShowsOnly db s0 → Before db → (d : Trees) → s3.may_leave d → s0.may_leave d ⊎ ((t : Database) × (t.trees ≡ d) × After t)
+  crash_ended : (b : ⊤) → made ≡ Ok b → {B : Type 0} (result : Result B StoreFault) → EndsWork s2 s3 now result → HasCleanDisk s3 → (db : Database) → ShowsOnly db s0 → Before db → (d : Trees) → s3.may_leave d → s0.may_leave d ⊎ AreTreesOf After d
   crash_ended b is result ends clean db only held d may = go (ends.survives.crash clean d may)
     where
       clean2 : HasCleanDisk s2
       clean2 = omega (arith, ends.survives.clean)
 
-      go : s2.may_leave d ⊎ ((now ≡ false) × (d ≡ s2.now.trees)) → s0.may_leave d ⊎ ((t : Database) × (t.trees ≡ d) × After t)
+      go : s2.may_leave d ⊎ ((now ≡ false) × (d ≡ s2.now.trees)) → s0.may_leave d ⊎ AreTreesOf After d
       go (inl earlier) = inl (crash_made clean2 db only d earlier)
       go (inr same) = inr (s2.now, sym same.1, made_now b is clean2 db only held)
 
@@ -147,7 +162,6 @@ module _ (Before After : Database → Type 0) {W : Type 0} (w : W) (s0 s1 s2 s3 
   made_done b is c ends durable = record {
     premise = λ clean. clean0 (clean1 (clean2 clean));
     ok = λ clean db only held. let committed = ends.committed clean in (s2.now, λ up. (committed.autocommit, committed.now, committed.committed), made_now b is (clean2 clean) db only held);
-    err = λ clean db only. tt;
     crash = crash_ended b is (Ok c) ends;
     alone = λ clean. ((ends.committed clean).is_open, durable clean);
     was_open = λ clean. (begins.begun (clean1 (clean2 clean))).0.was_open;
@@ -162,7 +176,6 @@ module _ (Before After : Database → Type 0) {W : Type 0} (w : W) (s0 s1 s2 s3 
   made_refused b is e ends = record {
     premise = λ clean. clean0 (clean1 (clean2 clean));
     ok = λ clean db only held. tt;
-    err = λ clean db only. undone_on db s1 s2 s3 (begun_on w db s0 s1 (clean1 (clean2 clean)) begins only).committed (makes.kept (clean2 clean)) (ends.undone clean);
     crash = crash_ended b is (Err e) ends;
     alone = λ clean. tt;
     was_open = λ clean. tt;

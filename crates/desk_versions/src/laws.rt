@@ -1,14 +1,14 @@
 //! What files without a desk hold, and what version 1 kept, as laws without code.
 
-ghost use Rattle.std.specs.Prelude.{◌≡◌, [], false};
+ghost use Rattle.std.specs.Prelude.{◌≡◌, [], None, false};
 ghost use Rattle.std.specs.List.{list_any};
-ghost use Rattle.sqlite.specs.Effect.{Database, IsDatabase};
-ghost use Rattle.sqlite.specs.Files.{AreFoundIn, HoldsDatabase, IsEmpty, IsNothing};
+ghost use Rattle.sqlite.specs.Effect.{Database};
+ghost use Rattle.sqlite.specs.Files.{AreFoundIn, IsEmpty, IsNothing};
 ghost use Rattle.sqlite_trees.specs.Tree.{Trees};
 ghost use Rattle.sqlite_wal.specs.Recovery.{Image};
 ghost use Rattle.desk_tables.specs.Schema.{is_desk_table};
 ghost use Rattle.desk_versions.specs.FirstForm.{VersionsAgree};
-ghost use Rattle.desk_versions.specs.Openings.{AreEmptyFiles, TellNoVersion};
+ghost use Rattle.desk_versions.specs.Openings.{AreEmptyFiles, Tells};
 
 /// Files of which the database has no byte, as at the first run of every shop, hold an empty
 /// database, whatever their log holds.
@@ -22,11 +22,10 @@ pub fn nothing_is_found_where_none_was_made()
     ensures { (image : Image) → IsNothing image → (d : Trees) → AreFoundIn image d → IsEmpty d }
 {}
 
-/// Files that hold a database of strangers' tables alone, none of them with a name of the desk's,
-/// tell no version. So an opening of them never ends with that of another one.
+/// A database of strangers' tables alone, none of them with a name of the desk's, tells no version. So
+/// an opening of files that hold one never ends with that of another one.
 pub fn tables_of_strangers_tell_no_version()
-    ensures { (image : Image) (db : Database) → ∥ HoldsDatabase image db.trees ∥₁ → IsDatabase db
-        → list_any is_desk_table db.schema.tables ≡ false → TellNoVersion image }
+    ensures { (db : Database) → list_any is_desk_table db.schema.tables ≡ false → Tells db None }
 {}
 
 /// Tables of version 1 and of version 2 are of the same requests, where each message is of form 1:

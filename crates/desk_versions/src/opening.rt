@@ -7,7 +7,7 @@ ghost use Rattle.sqlite.specs.State.{HasCleanDisk};
 ghost use Rattle.sqlite_trees.specs.Tree.{Trees};
 ghost use Rattle.sqlite_wal.specs.Reads.{AreClean};
 ghost use Rattle.desk_versions.specs.Creation as spec;
-ghost use Rattle.desk_versions.specs.Openings.{AreFoundAs, IsCreated, IsIndexed, IsReady, IsVersionRead};
+ghost use Rattle.desk_versions.specs.Openings.{AreFoundAs, Becomes, IsCreated, IsIndexed, IsVersionRead, opening};
 
 use desk_tables::rows::fault::fault_of;
 use desk_tables::rows::schemas::has_meta;
@@ -105,7 +105,7 @@ fn index_articles<S: Alter>(tables: &mut Tables<S>) -> Result<(), StoreFault>
 /// Takes the tables that are there, if they are of version 2, and makes the index on articles where
 /// it alone is missing; or makes the tables where there are none.
 pub fn prepare<S: Alter>(tables: &mut Tables<S>) -> Result<(), OpenFault>
-    ensures { IsReady (state S.Store tables.old.connection)
+    ensures { Becomes opening (state S.Store tables.old.connection)
         (state S.Store tables.new.connection) result }
 {
     match read_version(tables) {

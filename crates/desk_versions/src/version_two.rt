@@ -4,8 +4,8 @@ ghost use Rattle.std.specs.Prelude.{◌≡◌};
 ghost use Rattle.sqlite.specs.Held.{state};
 ghost use Rattle.desk_tables.specs.Rows.{DeskRows, Holds, HoldsFirst, with_version};
 ghost use Rattle.desk_tables.specs.Schema.{desk_schema};
-ghost use Rattle.desk_versions.specs.Migrations.{IsMigrated};
-ghost use Rattle.desk_versions.specs.Openings.{MakesAll};
+ghost use Rattle.desk_versions.specs.Migrations.{migration};
+ghost use Rattle.desk_versions.specs.Openings.{Becomes, MakesAll};
 
 use crate::opening::{OpenFault, create_tables, read_version};
 use desk_tables::tables::Tables;
@@ -36,7 +36,7 @@ fn migrate_first<S: Alter>(tables: &mut Tables<S>) -> Result<(), StoreFault>
 
 /// Brings the tables to version 2, or makes them where there are none.
 pub fn bring_to_two<S: Alter>(tables: &mut Tables<S>) -> Result<MigrateAnswer, OpenFault>
-    ensures { IsMigrated (state S.Store tables.old.connection)
+    ensures { Becomes migration (state S.Store tables.old.connection)
         (state S.Store tables.new.connection) result }
 {
     match read_version(tables) {

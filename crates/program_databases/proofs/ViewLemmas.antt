@@ -1,5 +1,5 @@
 -- What two files are to a desk that is opened of them, and that is closed.
-use Rattle.std.proofs.Common.{◌≡◌, ◌∙◌, Bool, true, false, List, arith, ap, inl, inr, refl, subst, sym}
+use Rattle.std.proofs.Common.{◌≡◌, ◌∙◌, true, false, List, arith, ap, inl, inr, refl, subst, sym}
 use Rattle.std.proofs.Math.Logic.{∥∥₁_elim}
 use Rattle.std.specs.List.{list_any}
 use Rattle.sqlite.specs.Closing.{IsCopied}
@@ -16,14 +16,15 @@ use Rattle.sqlite_wal.specs.Reads.{AreClean}
 use Rattle.sqlite_wal.specs.Recovery.{Image}
 use Rattle.desk_tables.proofs.MissingIndex.{lacks_again}
 use Rattle.desk_tables.proofs.OneSchema.{no_meta_again}
-use Rattle.desk_tables.specs.Schema.{is_meta}
+use Rattle.desk_tables.specs.Schema.{is_meta, lacks_index}
 use Rattle.series_rules.specs.Content.{SameContent}
 use Rattle.series_rules.specs.Views.{LeavesOnly}
 use Rattle.series_rules.specs.declared.requests.Request.{Request}
 use Rattle.desk_rows.proofs.ComesTo.{come_rows, rows_come, stored}
 use Rattle.desk_rows.specs.Desks.{AreRowsOf, KeepsRequests}
+use Rattle.desk_versions.proofs.FoundTables.{done_tells}
 use Rattle.desk_versions.specs.Creation.{AreRefused}
-use Rattle.desk_versions.specs.Openings.{AreFilesOf, AreFoundAs, HoldRowsOf, TakesFound}
+use Rattle.desk_versions.specs.Openings.{AreFilesOf, AreFoundAs, HoldRowsOf, IsDone, TakesFound, opening}
 use Rattle.desk_rows.specs.Seen.{seen_in}
 use Rattle.program_desks.specs.DeskFiles.{LeavesAs, OpensAs}
 use Rattle.program_desks.specs.declared.kept_desks.Creation.{Creation}
@@ -42,26 +43,21 @@ found_trees image d was both found = ∥∥₁_elim both (Trees-set _ _) (found.
 no_bool : true ≡ false → ⊥
 no_bool e = absurd cc
 
--- a table `meta` that the files hold was found
-has_meta : (db was : Database) → IsDatabase db → IsDatabase was → db.trees ≡ was.trees → list_any is_meta db.schema.tables ≡ true → (b : Bool) → list_any is_meta was.schema.tables ≡ b → list_any is_meta was.schema.tables ≡ true
-has_meta db was sound found same meta true is = is
-has_meta db was sound found same meta false is = absurd (no_bool (sym meta ∙ no_meta_again was db found is sound same))
+-- a database with a table `meta` that was found is what the desk that was opened holds
+holds_found : (db was : Database) → IsDatabase db → IsDatabase was → db.trees ≡ was.trees → list_any is_meta db.schema.tables ≡ true → lacks_index db.schema ≡ false → (s : State) → IsDone (opening tt) was s → (seen_in s).holds was.trees
+holds_found db was sound found same meta whole s (inl (open, inl (tells, stays, (now, is, shown, alone)))) = λ up. ap (λ (x : Database). x.trees) ((shown up).2 ∙ is)
+holds_found db was sound found same meta whole s (inl (open, inr (inl (tells, lacks, made)))) = absurd (no_bool (sym lacks ∙ lacks_again db was sound found (sym same) ∙ whole))
+holds_found db was sound found same meta whole s (inl (open, inr (inr (none, creates, made)))) = absurd (no_bool (sym meta ∙ no_meta_again was db found none sound same))
+holds_found db was sound found same meta whole s (inr (shut, more, told, alone)) = λ up. absurd (no_bool (sym up ∙ shut))
 
--- a database with a table `meta` is what the desk that was opened holds
 holds_meta : (image : Image) (s : State) → TakesFound image s → (d : Trees) → HoldMeta image d → (seen_in s).holds d
-holds_meta image s taken d (db, sound, trees, both, meta, whole) = λ up.
-    let (was, found, as_found, stays) = taken.found in
+holds_meta image s (was, found, as_found, done) d (db, sound, trees, both, meta, whole) =
     let same : was.trees ≡ d = found_trees image d was.trees both as_found in
-    let only = stays (has_meta db was sound found (trees ∙ sym same) meta (list_any is_meta was.schema.tables) refl) (lacks_again db was sound found (sym (trees ∙ sym same)) ∙ whole) in
-    ap (λ (x : Database). x.trees) (only.0 up).2 ∙ same
+    subst (seen_in s).holds same (holds_found db was sound found (trees ∙ sym same) meta whole s done)
 
 -- what was taken for a desk may be taken for one
 may_be_taken : (image : Image) (creation : Creation) (s : State) → TakesFound image s → ¬ AreRefused (store_creation creation) image → MayBeTaken image creation
-may_be_taken image creation s taken may = record {
-  found = (taken.found.0.trees, taken.found.2);
-  version = λ db both meta holds. (taken.told db both meta holds).0;
-  taken = may;
-}
+may_be_taken image creation s (db, sound, found, done) may = record { found = (db, sound, found, done_tells db s done); taken = may }
 
 -- a desk that was opened comes to what the files held
 pub opens_as : (image : Image) (creation : Creation) (s : State)

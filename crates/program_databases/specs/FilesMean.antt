@@ -1,19 +1,21 @@
 -- Of which lists of requests the two files of a desk are, and what a run makes of that.
-use Rattle.std.specs.Prelude.{◌≡◌, ◌↔◌, ℕ, List, []}
-use Rattle.sqlite.specs.Files.{image_of}
+use Rattle.std.specs.Prelude.{◌≡◌, ◌↔◌, ◌⊎◌, ◌∷◌, ℕ, Contains, List, [], false}
+use Rattle.sqlite.specs.Files.{HoldsDatabase, image_of, over_files}
 use Rattle.sqlite_disk.specs.declared.Disk.{Ghosts}
 use Rattle.sqlite_disk.specs.declared.Files.{Files}
 use Rattle.sqlite_store.specs.declared.store.FileStore.{FileStore}
 use Rattle.sqlite_trees.specs.Tree.{Trees}
+use Rattle.sqlite_trees.specs.View.{IsClean}
+use Rattle.sqlite_wal.specs.Files.{outcomes}
 use Rattle.sqlite_wal.specs.Reads.{AreClean}
 use Rattle.sqlite_wal.specs.Recovery.{Image}
 use Rattle.price_rules.specs.declared.precedence.Rule.{Rule}
 use Rattle.series_rules.specs.Content.{SameContent}
-use Rattle.series_rules.specs.Steps.{Leads, Step, with_answered}
+use Rattle.series_rules.specs.Steps.{Leads, Step, has_change, in_doubt, with_answered}
 use Rattle.series_rules.specs.declared.requests.Request.{Request}
 use Rattle.desk_rows.specs.Seen.{in_tables}
 use Rattle.desk_versions.specs.Openings.{AreEmptyFiles, AreFoundAs}
-use Rattle.program_desks.specs.DeskFiles.{DeskFiles}
+use Rattle.program_desks.specs.DeskFiles.{DeskFiles, LastsAlone}
 use Rattle.program_desks.specs.declared.kept_desks.Creation.{Creation}
 use Rattle.program_databases.specs.FileViews.{MayBeTaken}
 use Rattle.program_databases.specs.declared.unopened.Unopened.{Unopened}
@@ -41,6 +43,25 @@ module _ {K O U D : Type 0} (g : Ghosts D) (held : K → List ℕ → Image)
     -- lists of which the same files are, if something is found in these, come to the same
     pub one : (image : Image) (d : Trees) → AreFoundAs image d → (L M : List Request)
         → AreOf image L → AreOf image M → SameContent L M
+
+  -- What a crash leaves of the files of a desk is of the same lists.
+  pub record KeepLists (AreOf : Image → List Request → Type 0) : Type 0 where
+    -- of closed files that last alone, if something is found in them; so is the database file
+    -- without its log
+    pub closed : (now : Files D) (d : Trees) (left : Image) (L : List Request)
+        → LastsAlone files now → AreClean g now.log now.db → AreFoundAs (image_of g now) d
+        → AreOf (image_of g now) L → outcomes g now.log now.db left
+        → AreOf left L × AreOf (record left { log = [] }) L
+    -- of files that could not be closed behind a run: of the list with what was answered, or with
+    -- this and one request that is in doubt, or, where no answer changed something, as they were
+    pub unclosed : (rules : List Rule) (steps : List Step) (desks : K) (name : List ℕ)
+        (creation : Creation) (last : FileStore D g) (d : Trees) (left : Image) (L : List Request)
+        → Leads rules steps (files.found desks name creation) (files.unclosed last)
+        → IsClean ((over_files {g = g}).view last) → (over_files {g = g}).recovers last d
+        → ∥ HoldsDatabase left d ∥₁ → AreOf (held desks name) L
+        → AreOf left (with_answered L steps)
+        ⊎ (((r : Request) × Contains (in_doubt L steps) r × AreOf left (r ∷ with_answered L steps))
+        ⊎ ((has_change L steps ≡ false) × AreOf left L))
 
   -- the files of a name are opened only if they may be taken for a desk
   abbrev pub AreTakenRightly : Type 0

@@ -6,8 +6,8 @@ use Rattle.sqlite_disk.specs.declared.Files.{Files}
 use Rattle.sqlite_wal.specs.Recovery.{Image}
 use Rattle.series_rules.specs.declared.requests.Request.{Request}
 use Rattle.desk_versions.specs.Creation.{AreRefused}
-use Rattle.desk_versions.specs.Migrations.{AreFilesOfEither, AreMigrated, IsTrueAnswer}
-use Rattle.desk_versions.specs.Openings.{AreEmptyFiles, AreFilesWith, HoldRowsOf}
+use Rattle.desk_versions.specs.Migrations.{AreFilesOfEither, AreMigrated}
+use Rattle.desk_versions.specs.Openings.{HoldRowsOf}
 use Rattle.desk_versions.specs.declared.opening.Creation.{Creation}
 use Rattle.desk_versions.specs.declared.version_two.MigrateAnswer.{MigrateAnswer}
 use Rattle.desk_versions.specs.declared.version_two.MigrateAnswer.TheVariants as answer
@@ -24,6 +24,5 @@ answer_as Unneeded = answer.AlreadyTwo
 pub record IsMigrationDone {D : Type 0} (g : Ghosts D) (creation : Creation) (image : Image)
     (did : Migration) (files : Files D) : Type 0 where
   pub made : AreMigrated (answer_as did) image (image_of g files)
-  pub is_true : IsTrueAnswer (AreFilesWith image) (AreEmptyFiles image) (answer_as did)
   pub holds : (L : List Request) → AreFilesOfEither image L → HoldRowsOf (image_of g files) L
   pub taken : ¬ AreRefused creation image

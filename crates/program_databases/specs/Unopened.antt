@@ -1,13 +1,11 @@
 -- What is left of two files of which no desk was opened.
 use Rattle.std.specs.Prelude.{⊤}
-use Rattle.sqlite.specs.Effect.{Database}
 use Rattle.sqlite.specs.Files.{IsCleanLeft, LeavesFiles}
 use Rattle.sqlite_disk.specs.declared.Disk.{Ghosts}
 use Rattle.sqlite_disk.specs.declared.Files.{Files}
 use Rattle.sqlite_wal.specs.Recovery.{Image}
-use Rattle.desk_tables.specs.Rows.{DeskRows}
 use Rattle.desk_versions.specs.Creation.{AreRefused}
-use Rattle.desk_versions.specs.Openings.{KeepsFiles}
+use Rattle.desk_versions.specs.Openings.{KeepsFiles, Way}
 use Rattle.desk_versions.specs.declared.opening.Creation.{Creation}
 use Rattle.program_databases.specs.Databases.{AreSettled}
 use Rattle.program_databases.specs.declared.unopened.Unopened.{Unopened}
@@ -19,11 +17,11 @@ HasNoFiles (Left left) = ⊥
 HasNoFiles _ = ⊤
 
 -- Of files that held `image` a crash leaves what is said of these, and just that where no desk is
--- opened in such. Made: what may be made of rows that were found
-abbrev pub LeavesFound : {O U D : Type 0} → {g : Ghosts D}
-    → (Database → DeskRows → Database → Type 0) → Creation → Image → Unopened O U D g → Type 0
-LeavesFound {D = D} {g = g} made creation image (Left left) =
-    IsCleanLeft left → KeepsFiles {g = g} (AreSettled g image) made image left
+-- opened in such. Ways: what was to be done to them
+abbrev pub LeavesFound : {O U D A : Type 0} → {g : Ghosts D} → (A → Way) → Creation → Image
+    → Unopened O U D g → Type 0
+LeavesFound {D = D} {g = g} ways creation image (Left left) =
+    IsCleanLeft left → KeepsFiles {g = g} (AreSettled g image) ways image left
     × (AreRefused creation image → (files : Files D) × AreSettled g image files
     × LeavesFiles {g = g} files left)
-LeavesFound made creation image _ = ⊤
+LeavesFound ways creation image _ = ⊤

@@ -1,7 +1,7 @@
 //! The desks in SQLite files.
 
 ghost use Rattle.desk_versions.specs.Openings.{AreFilesOf};
-ghost use Rattle.program_databases.specs.FilesMean.{AreTakenRightly, MeanLists};
+ghost use Rattle.program_databases.specs.FilesMean.{AreTakenRightly, KeepLists, MeanLists};
 
 use crate::database::creation_of;
 use crate::databases::{Databases, open_database};
@@ -110,9 +110,13 @@ impl<O: Databases> KeepsDesks<DeskStore<FileStore<O::File>>> for StoredDesks<O> 
 /// What the files mean, as a law without code: there is a relation of files to lists of requests, by
 /// what the files hold, by which the desks are seen in them. Files without a desk are of the empty
 /// list, a run hands on the list with what it answered, and lists of which the same files are come to
-/// the same. It is the relation by the rows of the tables, but nothing rests on that.
+/// the same. What a crash leaves is of the list with what was answered: of closed files, and of the
+/// database without its log, of that alone; of files that could not be closed perhaps with one
+/// request more. It is the relation by the rows of the tables, but nothing rests on that.
 pub fn files_mean_lists<O: Databases>()
     ensures lists { MeanLists O.File.Disk (λ desks. O.held desks.databases)
+        ⟦<StoredDesks<O> as KeepsDesks<DeskStore<FileStore<O::File>>>>⟧.files AreFilesOf }
+    ensures crashes { KeepLists O.File.Disk (λ desks. O.held desks.databases)
         ⟦<StoredDesks<O> as KeepsDesks<DeskStore<FileStore<O::File>>>>⟧.files AreFilesOf }
     ensures taken { AreTakenRightly O.File.Disk (λ desks. O.held desks.databases)
         ⟦<StoredDesks<O> as KeepsDesks<DeskStore<FileStore<O::File>>>>⟧.files }

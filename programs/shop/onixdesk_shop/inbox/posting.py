@@ -149,8 +149,8 @@ def judge_anew(inbox: Inbox, where: str = "state = 'refused'", *values: str) -> 
 
 
 def give_back(inbox: Inbox, file: File) -> None:
-    """Frees the numbers of a file that the desk did not take. If the inbox gives numbers, it frees none below a final
-    number of another file."""
+    """Frees the numbers of a file that the desk did not take. If the inbox gives numbers, it frees none below a number that
+    is final for another file, or waived."""
     ledger = inbox.ledger
     last = ledger.last_final() if inbox.settings.gives_number(file.ending) else 0
     for row in ledger.messages_of(file) if not ledger.is_final(file) else []:

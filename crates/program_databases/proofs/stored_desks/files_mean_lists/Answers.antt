@@ -1,5 +1,5 @@
 use Rattle.std.proofs.Common.{inl, inr, refl}
-use Rattle.program_databases.proofs.ContentLemmas.{hands_on, one_of}
+use Rattle.program_databases.proofs.ContentLemmas.{closed_lists, hands_on, one_of, unclosed_lists}
 use Rattle.program_databases.proofs.stored_desks.files_mean_lists.Goals as goal
 
 pub returns-clause-lists : goal.returns-clause-lists
@@ -13,6 +13,12 @@ returns-clause-lists g c =
       handed = λ rules steps desks name creation now L leads clean are. hands_on g.O.File.Disk rules steps (held desks.databases name) creation now L leads clean are;
       one = one_of c.rows_have_one_content.ensures;
     }
+
+pub returns-clause-crashes : goal.returns-clause-crashes
+returns-clause-crashes g c = record {
+  closed = λ now d left L lasts clean found are may. let alone = lasts clean in closed_lists g.O.File.Disk now d alone.0 left L alone.1 found are may;
+  unclosed = λ rules steps desks name creation last d left L leads clean may both are. unclosed_lists g.O.File.Disk rules steps (g.O.Databases.held desks.databases name) creation last d left L leads clean may both are;
+}
 
 pub returns-clause-taken : goal.returns-clause-taken
 returns-clause-taken g c = λ desks name creation. (λ is. is, λ is. is)

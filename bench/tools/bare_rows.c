@@ -13,7 +13,7 @@ enum { SERIES, RECORD, ARTICLE, OFFER, PRICE, MINIMUM, APPLIED, TABLES };
 static const char *const names[TABLES] = {
     "series", "record", "article", "offer", "price", "price_minimum", "applied"};
 
-/* The rows of a table in the order in which they were put, and how many of them are put again. */
+/* The rows of a table in the order of their insertion, and how many of them are inserted again. */
 struct rows {
     sqlite3_value **values;
     int columns, count, next;
@@ -95,7 +95,7 @@ static void put_next(int table) {
     check(to, sqlite3_reset(rows->put));
 }
 
-/* The reference of the row that is put next, which is the second column of these tables. */
+/* The reference of the next row, which is the second column of these tables. */
 static const char *reference(int table) {
     struct rows *rows = &tables[table];
     if (rows->next == rows->count) return "";

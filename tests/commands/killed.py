@@ -3,14 +3,14 @@
     tests/killed [--most N] [--program PROGRAM] [NAME..]
     tests/killed --list
 
-The inbox, copies and restores are killed (SIGKILL) at each of their system calls that writes, renames, syncs or sends,
-as they come to it, by Debian's strace; the others at 40 moments of a run, with all that they have started. The state
-that is left is judged, and the one that the next run makes of it: no file that was taken is lost or taken as two,
-nothing is called a copy that is not whole, no number is given twice. With --most only N calls that rename a file are
-tried of each, and half as many others, as far apart as can be, or N moments.
+Debian's strace kills (SIGKILL) the inbox, copies and restores at each system call that writes, renames, syncs or sends;
+the others are killed with their children at 40 moments of a run. It judges the state that is left, and the one that the
+next run makes of it: no taken file is lost or taken as two, no incomplete folder is called a copy, no number is given
+twice. --most tries only N calls of each that rename a file, and half as many others, as far apart as possible, or N
+moments.
 
-A line with the counts is written for each program, and one for each state that is wrong. Status 0; 1 where one is; 2
-where there is no strace, program or such a NAME.
+It writes a line with the counts for each program, and one for each wrong state. Status 0; 1 if there is one; 2 if there
+is no strace, program or such a NAME.
 """
 
 import argparse

@@ -1,9 +1,9 @@
-"""Names what `make test` leaves out, since a program that it needs is not here.
+"""Names what `make test` leaves out, since a program that it needs is missing.
 
     tests/lacks
 
-A line for each group of tests, and for each command whose groups all need the same. Status 0; 1 where NOTHING_LEFT_OUT
-is set and something is missing.
+It writes a line for each group of tests, and for each command whose groups all need the same. Status 0; 1 if
+NOTHING_LEFT_OUT is set and something is missing.
 """
 
 import sys

@@ -4,11 +4,11 @@
     tests/page/run --list
 
 It needs Debian's packages nginx, openssl, chromium, chromium-headless-shell, chromium-driver and python3-selenium,
-and Debian's own Python. Where only the page itself counts it is opened in Chromium's shell. PROGRAM is
-crates/onixdesk/out/onixdesk where none is named. With -k only the groups are run that have the text in their name, which
---list tells, and those that they build on; with --case only those of their cases are counted. For each case that failed
-a line is written, and at the end `page: N cases, M failed`; no file of the repository changes. Status 0; 1 where a case failed; 2 where no case was
-run, there is no program or a package is missing.
+and Debian's own Python. If only the page itself counts, Chromium's shell opens it. PROGRAM is by default
+crates/onixdesk/out/onixdesk. -k selects the groups with that text in their names, which --list prints, and those that
+they build on; --case counts only cases with that text. It writes a line for each failed case, and at the end
+`page: N cases, M failed`; no file of the repository changes. Status 0; 1 if a case failed; 2 if no case ran, or the
+program or a package is missing.
 """
 
 import os

@@ -3,12 +3,12 @@
     tests/postgres/run [-k PATTERN].. [--case TEXT] [PROGRAM]
     tests/postgres/run --list
 
-It makes a cluster in a folder of its own, with a socket there alone, and removes it at the end; as root it runs it as
-the user postgres. It needs Debian's packages postgresql-15 and python3-psycopg2, and Debian's own Python. PROGRAM is
-crates/onixdesk/out/onixdesk where none is named. With -k only the groups are run that have the text in their name,
-which --list tells, and with --case only those of their cases are counted. For each case that failed a line is written,
-and at the end `postgres: N cases, M failed`. Where a package is missing, that is said and nothing is tried. Status 0;
-1 where a case failed; 2 where no case was run, there is no program, or a package is missing and NOTHING_LEFT_OUT is set.
+It makes a cluster in a folder of its own, with only a socket there, and removes it at the end; root runs it as the user
+postgres. It needs Debian's packages postgresql-15 and python3-psycopg2, and Debian's own Python. PROGRAM is by default
+crates/onixdesk/out/onixdesk. -k selects the groups with that text in their names, which --list prints; --case counts
+only cases with that text. It writes a line for each failed case, and at the end `postgres: N cases, M failed`. If a
+package is missing, it says so and tries nothing. Status 0; 1 if a case failed; 2 if no case ran, if the program is
+missing, or if a package is missing and NOTHING_LEFT_OUT is set.
 """
 
 import sys

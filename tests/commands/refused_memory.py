@@ -1,14 +1,14 @@
-"""Refuses memory, one request for it in each run, to the tests of the desks: to messages, waivers, questions, choices
-with calendars and exchanges over the desk in memory and over tables, to forty messages that are applied at once,
-over the desk in memory and over files with the rows of their tables, to a migration, and to the two calls of the text
-of contents.
+"""Refuses one request for memory in each run of the tests of the desks: of messages, waivers, questions, choices with
+calendars and exchanges over the desk in memory and over tables; of forty messages that are applied at once, over the
+desk in memory and over files with the rows of their tables; of a migration; and of the two calls for the text of
+contents.
 
     tests/refused-memory [--longer] [-k TEXT] [PROGRAM]
 
-PROGRAM is that of the tests of the libraries, crates/desk_tests/out/desk_tests_tests where none is
-named, and is then refused where a source has changed since it was built. With --longer it tries what takes too
-long for the gate. With -k only the tests are tried that have the text in their names. The last line is
-`memory: N requests refused, M runs failed`. Status 0; 1 where a run failed; 2 where there is no such program or test.
+PROGRAM has the tests of the libraries, by default crates/desk_tests/out/desk_tests_tests, which is rejected if a
+source has changed since it was built. --longer adds what takes too long for the gate. -k selects the tests with that
+text in their names. The last line is `memory: N requests refused, M runs failed`. Status 0; 1 if a run failed; 2 if
+there is no such program or test.
 """
 
 import argparse

@@ -3,13 +3,13 @@
     tests/run [-k PATTERN].. [--case TEXT] [--jobs N] [PROGRAM]
     tests/run --list
 
-PROGRAM is crates/onixdesk/out/onixdesk where none is named, and is then refused where a source has changed since it
-was built. With -k only the groups are run that have the text in their name, which --list tells, and with --case only
-those of their cases are counted. N processes, three for each two processors and six at most where it is not said, try
-one group after the other each, in folders in memory where there is enough (tests/program/places.py), or where TMPDIR
-says. For each case that failed one line is written, in the order of --list, and at the end `program: N cases, M
-failed`. A group whose program is missing is named first and left out. Status 0; 1 where a case failed; 2 where no case
-was run, there is no such program, or a group is left out and NOTHING_LEFT_OUT is set.
+PROGRAM is by default crates/onixdesk/out/onixdesk, which is rejected if a source has changed since it was built. -k
+selects the groups with that text in their names, which --list prints; --case counts only cases with that text. N
+processes, by default three for each two processors and at most six, run one group after the other, in folders in memory
+if there is enough (tests/program/places.py), or where TMPDIR says. It writes a line for each failed case, in the order
+of --list, and at the end `program: N cases, M failed`. It first names each group that it leaves out because a program
+is missing. Status 0; 1 if a case failed; 2 if no case ran, there is no such program, or a group is left out and
+NOTHING_LEFT_OUT is set.
 """
 
 import compileall

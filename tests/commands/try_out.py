@@ -1,10 +1,10 @@
-"""Builds the program without any proof, unless it is built of the present sources, and says where it is.
+"""Builds the program without any proof, unless it is built of the present sources, and prints its path.
 
     tests/try
 
-It is crates/onixdesk/out/onixdesk.unproved, with every check that the toolchain can build into it and without
-optimizations: to try the program out and to find faults, and not for a shop. Status 0; 1 if it cannot be built; 2 if
-there is no toolchain.
+It is crates/onixdesk/out/onixdesk.unproved, with every check that the toolchain can build in and without
+optimizations: for trying the program and finding faults, not for a shop. Status 0; 1 if it cannot be built; 2 if there
+is no toolchain.
 """
 
 import os

@@ -4,7 +4,7 @@
    copy, and goes on with the memory. A line "REQUEST STATUS FROM TO" on the descriptor TOLD tells of each
    copy: how it ended, as `waitpid` says it, and which bytes of the file of its standard error are its own.
    START, STEP and TOLD stand in the environment. */
-/* What is used of the C library on Linux of 64 bits, since the toolchain's compiler has no headers. */
+/* Declarations of the C library on 64-bit Linux, since the toolchain's compiler has no headers. */
 #define NULL ((void *)0)
 #define RTLD_NEXT ((void *)-1L)
 enum { SEEK_END = 2 };
@@ -22,7 +22,7 @@ extern unsigned alarm(unsigned);
 extern void _exit(int) __attribute__((noreturn));
 extern void *dlsym(void *, const char *);
 
-/* A copy that runs for so many seconds is ended. */
+/* A copy is ended after so many seconds. */
 enum { SECONDS = 60 };
 
 static long requests, start, step;

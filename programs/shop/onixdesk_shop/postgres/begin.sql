@@ -1,4 +1,4 @@
--- A run is alone at work in a database, and changes no schema that is somebody else's, or another version's.
+-- Only one run works in a database at a time. It changes no schema of somebody else, or of another version.
 SET client_encoding = 'UTF8'; SET search_path = pg_catalog; SET client_min_messages = warning; SET lock_timeout = '15min';
 SELECT pg_advisory_lock(1684370283); -- "desk" in ASCII
 BEGIN;

@@ -1,5 +1,4 @@
--- The desk's questions, with the answers that the desk gave at the moment of the tables. What the desk calls malformed
--- is refused by the types.
+-- The desk's questions, with its answers at the moment of the tables. The types refuse what the desk calls malformed.
 CREATE DOMAIN desk.isbn AS text COLLATE "C" NOT NULL CHECK (VALUE ~ '^[0-9]{13}$');
 CREATE DOMAIN desk.day AS date NOT NULL CHECK (VALUE BETWEEN '0001-01-01' AND '9999-12-31');
 CREATE DOMAIN desk.country AS text COLLATE "C" NOT NULL CHECK (VALUE ~ '^[A-Z]{2}$');
@@ -15,7 +14,7 @@ LANGUAGE sql IMMUTABLE PARALLEL SAFE AS $$
         AND NOT country = ANY (string_to_array(excluded, ' '))
 $$;
 
--- Refuses a question of a transaction that began before these tables, and so would find nothing in them.
+-- Refuses a question of a transaction that began before these tables, which would find nothing in them.
 CREATE FUNCTION desk.be_seen() RETURNS void
 LANGUAGE plpgsql STABLE PARALLEL SAFE AS $$
 BEGIN
@@ -57,7 +56,7 @@ BEGIN
 END
 $$;
 
--- What each offer of an article costs on a day; no amount where no price holds.
+-- What each offer of an article costs on a day; no amount if no price holds.
 CREATE FUNCTION desk.prices(
     isbn desk.isbn, day desk.day, country desk.country, currency desk.currency, type desk.code,
     quantity desk.quantity DEFAULT 1
@@ -73,7 +72,7 @@ BEGIN
 END
 $$;
 
--- The offer that the precedence table chooses; no row where it chooses none.
+-- The offer that the precedence table chooses; no row if it chooses none.
 CREATE FUNCTION desk.choice(
     isbn desk.isbn, day desk.day, country desk.country, currency desk.currency, type desk.code,
     quantity desk.quantity DEFAULT 1

@@ -1,4 +1,4 @@
--- Made once the rows are there, which is quicker.
+-- Made after the rows, which is quicker.
 ALTER TABLE desk.meta ADD PRIMARY KEY (item);
 ALTER TABLE desk.series ADD PRIMARY KEY (name);
 ALTER TABLE desk.held ADD PRIMARY KEY (series, number);

@@ -52,7 +52,7 @@ pub image_holds_one : RowsHaveOneContent → (image : Image) (creation : Creatio
     → (seen_image image creation).stands_for L → (seen_image image creation).stands_for M → SameContent L M
 image_holds_one one image creation sound L M (one_list, files, same) (other, also, comes) =
     same_trans L one_list M (same_sym one_list L same)
-    (same_trans one_list other M (one_of one image sound.found.0.trees sound.found.2 one_list other files also) comes)
+    (same_trans one_list other M (one_of one image sound.found.0 sound.found.1 one_list other files also) comes)
 
 -- a run that led from files to others hands on of which list they are
 pub hands_on : {D : Type 0} (g : Ghosts D) (rules : List Rule) (steps : List Step) (image : Image) (creation : Creation) (now : Files D) (L : List Request)

@@ -1,5 +1,5 @@
 -- What two files are to a desk that is opened of them, and that is closed.
-use Rattle.std.proofs.Common.{◌≡◌, ◌∙◌, true, false, List, arith, ap, inl, inr, refl, subst, sym}
+use Rattle.std.proofs.Common.{◌≡◌, ◌⊎◌, ◌∙◌, None, Some, true, false, List, arith, ap, inl, inr, refl, subst, sym}
 use Rattle.std.proofs.Math.Logic.{∥∥₁_elim}
 use Rattle.std.specs.List.{list_any}
 use Rattle.sqlite.specs.Closing.{IsCopied}
@@ -14,8 +14,11 @@ use Rattle.sqlite_trees.specs.Props.{Trees-set}
 use Rattle.sqlite_trees.specs.Tree.{Trees}
 use Rattle.sqlite_wal.specs.Reads.{AreClean}
 use Rattle.sqlite_wal.specs.Recovery.{Image}
+use Rattle.desk_tables.proofs.MetaAlone.{has_its_meta, meta_again}
 use Rattle.desk_tables.proofs.MissingIndex.{lacks_again}
 use Rattle.desk_tables.proofs.OneSchema.{no_meta_again}
+use Rattle.desk_tables.specs.Meta.{HoldsMeta, version_among}
+use Rattle.desk_tables.specs.Rows.{MetaRow}
 use Rattle.desk_tables.specs.Schema.{is_meta, lacks_index}
 use Rattle.series_rules.specs.Content.{SameContent}
 use Rattle.series_rules.specs.Views.{LeavesOnly}
@@ -24,7 +27,7 @@ use Rattle.desk_rows.proofs.ComesTo.{come_rows, rows_come, stored}
 use Rattle.desk_rows.specs.Desks.{AreRowsOf, KeepsRequests}
 use Rattle.desk_versions.proofs.FoundTables.{done_tells}
 use Rattle.desk_versions.specs.Creation.{AreRefused}
-use Rattle.desk_versions.specs.Openings.{AreFilesOf, AreFoundAs, HoldRowsOf, IsDone, TakesFound, opening}
+use Rattle.desk_versions.specs.Openings.{AreFilesOf, AreFoundAs, HoldRowsOf, IsDone, TakesFound, Tells, opening}
 use Rattle.desk_rows.specs.Seen.{seen_in}
 use Rattle.program_desks.specs.DeskFiles.{LeavesAs, OpensAs}
 use Rattle.program_desks.specs.declared.kept_desks.Creation.{Creation}
@@ -45,9 +48,9 @@ no_bool e = absurd cc
 
 -- a database with a table `meta` that was found is what the desk that was opened holds
 holds_found : (db was : Database) → IsDatabase db → IsDatabase was → db.trees ≡ was.trees → list_any is_meta db.schema.tables ≡ true → lacks_index db.schema ≡ false → (s : State) → IsDone (opening tt) was s → (seen_in s).holds was.trees
-holds_found db was sound found same meta whole s (inl (open, inl (tells, stays, (now, is, shown, alone)))) = λ up. ap (λ (x : Database). x.trees) ((shown up).2 ∙ is)
-holds_found db was sound found same meta whole s (inl (open, inr (inl (tells, lacks, made)))) = absurd (no_bool (sym lacks ∙ lacks_again db was sound found (sym same) ∙ whole))
-holds_found db was sound found same meta whole s (inl (open, inr (inr (none, creates, made)))) = absurd (no_bool (sym meta ∙ no_meta_again was db found none sound same))
+holds_found db was sound found same meta whole s (inl (still, inl (tells, stays, (now, is, shown, alone)))) = λ up. ap (λ (x : Database). x.trees) ((shown up).2 ∙ is)
+holds_found db was sound found same meta whole s (inl (still, inr (inl (tells, lacks, made)))) = absurd (no_bool (sym lacks ∙ lacks_again db was sound found (sym same) ∙ whole))
+holds_found db was sound found same meta whole s (inl (still, inr (inr (none, creates, made)))) = absurd (no_bool (sym meta ∙ no_meta_again was db found none sound same))
 holds_found db was sound found same meta whole s (inr (shut, more, told, alone)) = λ up. absurd (no_bool (sym up ∙ shut))
 
 holds_meta : (image : Image) (s : State) → TakesFound image s → (d : Trees) → HoldMeta image d → (seen_in s).holds d
@@ -55,9 +58,18 @@ holds_meta image s (was, found, as_found, done) d (db, sound, trees, both, meta,
     let same : was.trees ≡ d = found_trees image d was.trees both as_found in
     subst (seen_in s).holds same (holds_found db was sound found (trees ∙ sym same) meta whole s done)
 
+-- the version that was told is that of each table `meta` that the files hold
+tells_version : (was : Database) (meta : List MetaRow) → HoldsMeta was meta → Tells was None ⊎ Tells was (Some 2) → version_among meta ≡ Some 2
+tells_version was meta has (inl none) = absurd (no_bool (sym (has_its_meta was meta has) ∙ none))
+tells_version was meta has (inr tells) = tells.1 meta has
+
 -- what was taken for a desk may be taken for one
 may_be_taken : (image : Image) (creation : Creation) (s : State) → TakesFound image s → ¬ AreRefused (store_creation creation) image → MayBeTaken image creation
-may_be_taken image creation s (db, sound, found, done) may = record { found = (db, sound, found, done_tells db s done); taken = may }
+may_be_taken image creation s (was, sound, found, done) may = record {
+  found = (was.trees, found);
+  version = λ db both meta has. tells_version was meta (meta_again db was meta has sound (found_trees image db.trees was.trees both found)) (done_tells was s done);
+  taken = may;
+}
 
 -- a desk that was opened comes to what the files held
 pub opens_as : (image : Image) (creation : Creation) (s : State)

@@ -1,5 +1,5 @@
 -- The two files of a desk, as a desk is seen: before they are opened, and as they are left.
-use Rattle.std.specs.Prelude.{◌≡◌, ◌⊎◌, ℕ, List, None, Some, false, true}
+use Rattle.std.specs.Prelude.{◌≡◌, ℕ, List, Some, false, true}
 use Rattle.std.specs.List.{list_any}
 use Rattle.sqlite.specs.Closing.{HoldsAlone}
 use Rattle.sqlite.specs.Effect.{Database, IsDatabase}
@@ -12,6 +12,8 @@ use Rattle.sqlite_trees.specs.View.{IsClean}
 use Rattle.sqlite_wal.specs.Files.{outcomes}
 use Rattle.sqlite_wal.specs.Reads.{AreClean}
 use Rattle.sqlite_wal.specs.Recovery.{Image}
+use Rattle.desk_tables.specs.Meta.{HoldsMeta, version_among}
+use Rattle.desk_tables.specs.Rows.{MetaRow}
 use Rattle.desk_tables.specs.Schema.{is_meta, lacks_index}
 use Rattle.series_rules.specs.Content.{SameContent, same_trans}
 use Rattle.series_rules.specs.Views.{View}
@@ -20,7 +22,7 @@ use Rattle.desk_rows.specs.Desks.{AreRowsOf}
 use Rattle.desk_rows.specs.Seen.{in_tables}
 use Rattle.desk_versions.specs.Creation.{AreRefused}
 use Rattle.desk_versions.specs.Migrations.{AreFilesOfEither, migration}
-use Rattle.desk_versions.specs.Openings.{AreFilesOf, AreFoundAs, FindsSuch, HoldRowsOf, Tells, opening}
+use Rattle.desk_versions.specs.Openings.{AreFilesOf, AreFoundAs, HoldRowsOf, opening}
 use Rattle.program_desks.specs.DeskFiles.{DeskFiles}
 use Rattle.program_desks.specs.declared.kept_desks.Creation.{Creation}
 use Rattle.program_databases.specs.Found.{store_creation}
@@ -35,10 +37,12 @@ HoldMeta image d =
     (db : Database) × IsDatabase db × (db.trees ≡ d) × ∥ HoldsDatabase image d ∥₁
     × (list_any is_meta db.schema.tables ≡ true) × (lacks_index db.schema ≡ false)
 
--- Two files may be taken for a desk: a database is found in them, or nothing yet, and it tells
--- version 2, or none and a desk may be created in it.
+-- Two files may be taken for a desk: a database is found in them, or nothing yet, and if it has a
+-- table `meta` of a desk, that tells version 2; else a desk may be created in it.
 pub record MayBeTaken (image : Image) (creation : Creation) : Type 0 where
-  pub found : FindsSuch image (λ db. Tells db None ⊎ Tells db (Some 2))
+  pub found : (db : Trees) × AreFoundAs image db
+  pub version : (db : Database) → ∥ HoldsDatabase image db.trees ∥₁ → (meta : List MetaRow)
+      → HoldsMeta db meta → version_among meta ≡ Some 2
   pub taken : ¬ AreRefused (store_creation creation) image
 
 -- two files before they are opened, which are opened only if they may be taken for a desk: they

@@ -1,5 +1,5 @@
 -- What is promised of a desk's files makes their openings, closings and stops events of a run.
-use Rattle.std.proofs.Common.{◌≡◌, ◌⊎◌, List, [], inl, inr, refl, sym, subst}
+use Rattle.std.proofs.Common.{◌≡◌, ◌⊎◌, List, inl, inr, refl, sym, subst}
 use Rattle.std.proofs.Math.Logic.{∥∥₁_elim, ∥∥₁_map}
 use Rattle.sqlite.proofs.Theorems.{opens_again}
 use Rattle.sqlite.specs.Effect.{Database, IsDatabase}
@@ -14,10 +14,10 @@ use Rattle.series_rules.specs.declared.requests.Request.{Request}
 use Rattle.desk_rows.specs.Desks.{AreRowsOf}
 use Rattle.desk_rows.specs.Seen.{in_tables}
 use Rattle.desk_versions.specs.Openings.{AreEmptyFiles, AreFilesOf, AreFoundAs, SparesFiles, opening}
-use Rattle.desk_versions.specs.Openings as openings
 use Rattle.desk_rows.proofs.ComesTo.{come_rows, rows_come, stored}
 use Rattle.desk_versions.proofs.EmptyFiles.{bare_database, empty_files, found_empty}
 use Rattle.desk_versions.proofs.FoundFiles.{found_for}
+use Rattle.desk_versions.proofs.FoundTables as tables
 use Rattle.desk_versions.proofs.FoundTables.{left_stands}
 use Rattle.desk_stops.specs.Connections.{HaveNoTable}
 use Rattle.desk_stops.specs.Files.{AreFilesAt, FileOpeningsAreEvents, FilesAreLeft}
@@ -48,7 +48,7 @@ module _ {D : Type 0} (g : disk.Ghosts D) where
     again (inr (no_byte, empty)) (inl comes) same = absurd (empty_holds_no_rows found L (bare found empty) (come_rows found L comes))
     again (inr (no_byte, empty)) (inr none) same = inr (bare left (found_empty image no_byte left same.0), none.1)
 
-    of_found : (db : Database) → IsDatabase db → openings.IsFoundFor db L → (left ≡ db.trees) ⊎ AreRowsOf left L → Found left L
+    of_found : (db : Database) → IsDatabase db → tables.IsFoundFor db L → (left ≡ db.trees) ⊎ AreRowsOf left L → Found left L
     of_found db sound found_for (inr rows) = inl (rows_come left L rows)
     of_found db sound (inl stored) (inl same) = inl (rows_come left L (db, sym same, stored))
     of_found db sound (inr none) (inl same) = inr ((db, sym same, (none.0, sound)), none.1)

@@ -1,9 +1,9 @@
 -- What the files of a desk hold, against the lists of requests.
-use Rattle.std.proofs.Common.{◌≡◌, ◌≤◌, ◌⊎◌, Bool, arith, inl, inr, List, [], Ok, refl, sym, ap, ◌∙◌, subst}
-use Rattle.std.specs.Prelude.{false, true, IfSome, IsTrue, None, Option, Some, ⊤}
+use Rattle.std.proofs.Common.{◌≡◌, ◌≤◌, Bool, arith, inl, inr, List, [], Ok, refl, sym, ap, ◌∙◌, subst}
+use Rattle.std.specs.Prelude.{false, true, IfSome, IsTrue, None, Option, Some}
 use Rattle.std.proofs.Math.Logic.{∥∥₁_elim}
 use Rattle.sqlite.specs.Effect.{Database, IsDatabase}
-use Rattle.sqlite.specs.Files.{AreFoundIn, HoldsDatabase, IsCleanLeft, LeavesFiles, image_of, over_files}
+use Rattle.sqlite.specs.Files.{HoldsDatabase, IsCleanLeft, LeavesFiles, image_of, over_files}
 use Rattle.sqlite.specs.declared.file.Leftover.{Leftover}
 use Rattle.sqlite.specs.declared.file.Leftover.TheVariants as leftover
 use Rattle.sqlite_disk.specs.declared.Disk as disk
@@ -22,15 +22,15 @@ use Rattle.series_rules.specs.declared.requests.Request.{Request}
 use Rattle.desk_rows.specs.Desks.{AreRowsOf, HoldsSecond, KeepsRequests}
 use Rattle.desk_versions.specs.Creation.{AreRefused, takes}
 use Rattle.desk_versions.specs.declared.opening.Creation.{Creation}
-use Rattle.desk_versions.specs.Migrations.{AreFilesOfEither, AreMigrated, IsHeld, IsOfRequests, migration}
-use Rattle.desk_versions.specs.Openings.{AreEmptyFiles, AreFilesOf, AreFoundAs, Becomes, ByFound, FindsSuch, HoldRowsOf, IsDone, IsFaultOf, IsFoundFor, IsLeft, IsOther, IsThere, KeepsFiles, KeepsStore, LeavesShown, ShowsOnly, TakesFound, TellsFiles, Way, left_in, opening}
+use Rattle.desk_versions.specs.Migrations.{AreFilesOfEither, AreMigrated, IsHeld}
+use Rattle.desk_versions.specs.Openings.{AreEmptyFiles, AreFilesOf, AreFoundAs, Becomes, ByFound, FindsSuch, HoldRowsOf, IsDone, IsFaultOf, IsLeft, IsOther, IsThere, KeepsFiles, KeepsStore, LeavesShown, ShowsOnly, TakesFound, TellsFiles, Way, left_in, opening}
 use Rattle.desk_versions.specs.declared.version_two.MigrateAnswer.{MigrateAnswer}
 use Rattle.desk_versions.specs.declared.opening.OpenFault.{OpenFault}
 use Rattle.desk_versions.specs.declared.opening.OpenFault.TheVariants.{Store, OtherVersion}
 use Rattle.desk_rows.proofs.ComesTo.{stored}
 use Rattle.desk_versions.proofs.EmptyFiles.{bare_is_emptied, nothing_found}
-use Rattle.desk_versions.proofs.FoundTables.{by_found, done_stands, no_meta, tells_both}
-use Rattle.desk_versions.proofs.MigratedTables.{brought_stands}
+use Rattle.desk_versions.proofs.FoundTables.{IsFoundFor, by_found, done_stands, no_meta, tells_both}
+use Rattle.desk_versions.proofs.MigratedTables.{IsOfRequests, brought_stands}
 
 -- a connection that was just opened
 pub opened_shows : (s : State) → Opens s → ShowsOnly s.now s

@@ -1,26 +1,23 @@
 -- What is found where a desk is opened, and what is made of it.
 use Rattle.std.proofs.Common.{◌≡◌, ◌⊎◌, inl, inr, ℕ, Bool, true, false, List, [], Option, Some, None, Ok, Err, Result, IsTrue, arith, refl, sym, ap, ◌∙◌, subst}
-use Rattle.std.specs.Prelude.{IsSome, ⊤}
-use Rattle.std.specs.List.{list_any}
 use Rattle.sqlite.specs.Effect.{Database}
 use Rattle.sqlite.specs.State.{State, HasCleanDisk}
 use Rattle.sqlite_disk.specs.Disk.{MoreFaults}
 use Rattle.sqlite_trees.specs.Tree.{Trees}
 use Rattle.desk_tables.proofs.MetaAlone.{first_has_meta, has_its_meta, second_has_meta, unindexed_has_meta}
 use Rattle.desk_tables.proofs.MissingIndex.{first_lacks_more, second_has_index, unindexed_lacks_index}
-use Rattle.desk_tables.specs.Meta.{HoldsMeta, version_among}
-use Rattle.desk_tables.specs.Rows.{DeskRows, Holds, HoldsFirst, HoldsUnindexed, MetaRow, first_rows, version_in}
-use Rattle.desk_tables.specs.Schema.{is_meta, lacks_index, schema_0}
+use Rattle.desk_tables.specs.Meta.{HoldsMeta}
+use Rattle.desk_tables.specs.Rows.{DeskRows, Holds, HoldsUnindexed, first_rows, version_in}
+use Rattle.desk_tables.specs.Schema.{lacks_index, schema_0}
 use Rattle.desk_tables.specs.Transactions.{IsEmptied}
 use Rattle.onix_records.specs.declared.faults.StoreFault.{StoreFault}
 use Rattle.series_rules.specs.declared.requests.Request.{Request}
 use Rattle.desk_rows.specs.Desks.{AreRowsOf, HoldsRequests, KeepsRequests, StoresRequests}
-use Rattle.desk_versions.specs.Openings.{AreTreesOf, Becomes, ByFound, HoldsAny, IsCreated, IsDone, IsFaultOf, IsFoundFor, IsIndexed, IsLeft, IsThere, IsVersionRead, LeavesShown, LeavesOne, MakesIndex, MayBeLeft, ShowsOnly, Tells, Way, opening}
+use Rattle.desk_versions.specs.Openings.{AreTreesOf, Becomes, ByFound, HoldsAny, IsCreated, IsDone, IsFaultOf, IsIndexed, IsLeft, IsThere, IsVersionRead, LeavesOne, LeavesShown, MakesIndex, MayBeLeft, ShowsOnly, Tells, Way, opening}
 use Rattle.desk_versions.specs.declared.opening.OpenFault.{OpenFault}
 use Rattle.desk_versions.specs.declared.opening.OpenFault.TheVariants.{Store, OtherVersion}
 use Rattle.desk_rows.proofs.ComesTo.{stored}
 use Rattle.desk_versions.proofs.EmptyFiles.{first_stand}
-use Rattle.desk_versions.proofs.SetVersions.{version_stands}
 
 -- ---- what is told
 
@@ -219,6 +216,10 @@ module _ (s0 s1 s2 : State) (settled : IsSettled s0) (read : IsVersionRead s0 s1
       go clean db shown true is = inr (is, λ rows any d may. let un = unindexed db is rows any in with_index db rows un d ((indexed rows).crash clean db shown un d may))
 
 -- ---- against lists of requests
+
+-- the database holds what those requests come to, or it has no table and they are none
+abbrev pub IsFoundFor : Database → List Request → Type 0
+IsFoundFor db L = StoresRequests db L ⊎ (IsEmptied schema_0 db × (L ≡ []))
 
 pub keeps_found : (db : Database) (L : List Request) (s : State) → ShowsOnly db s → HoldsRequests db L → KeepsRequests s L
 keeps_found db L s only held = λ up. let is = only up in (is.0, subst (λ d. HoldsRequests d L) (sym is.1) held, subst (λ d. HoldsRequests d L) (sym is.2) held)

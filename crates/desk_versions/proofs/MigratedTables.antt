@@ -1,21 +1,21 @@
 -- What bringing the tables to version 2 makes of them.
-use Rattle.std.proofs.Common.{◌≡◌, ◌⊎◌, inl, inr, ℕ, List, [], Option, Some, None, Ok, Err, Result, refl, sym, ap, subst, ◌∙◌}
+use Rattle.std.proofs.Common.{◌≡◌, ◌⊎◌, inl, inr, ℕ, List, Option, Some, None, Ok, Err, Result, sym, subst, ◌∙◌}
 use Rattle.std.specs.Prelude.{⊤}
 use Rattle.sqlite.specs.Effect.{Database}
 use Rattle.sqlite.specs.State.{State, HasCleanDisk}
 use Rattle.sqlite_trees.specs.Tree.{Trees}
-use Rattle.desk_tables.specs.Rows.{DeskRows, Holds, HoldsFirst, HoldsUnindexed, first_rows, version_in, with_version}
+use Rattle.desk_tables.specs.Rows.{DeskRows, Holds, HoldsFirst, version_in, with_version}
 use Rattle.desk_tables.specs.Schema.{desk_schema}
 use Rattle.onix_records.specs.declared.faults.StoreFault.{StoreFault}
 use Rattle.series_rules.specs.declared.requests.Request.{Request}
 use Rattle.desk_rows.specs.Desks.{StoresRequests}
-use Rattle.desk_versions.specs.Migrations.{IsOfRequests, MakesSecond, migration}
+use Rattle.desk_versions.specs.Migrations.{HoldsFirstRequests, MakesSecond, migration}
 use Rattle.desk_versions.specs.Openings.{AreTreesOf, Becomes, ByFound, HoldsAny, IsVersionRead, MakesAll, ShowsOnly, Tells}
 use Rattle.desk_versions.specs.declared.version_two.MigrateAnswer.{MigrateAnswer}
 use Rattle.desk_versions.specs.declared.version_two.MigrateAnswer.TheVariants.{Migrated, AlreadyTwo}
 use Rattle.desk_versions.specs.declared.opening.OpenFault.TheVariants.{Store}
 use Rattle.desk_rows.proofs.ComesTo.{stored}
-use Rattle.desk_versions.proofs.FoundTables.{IsSettled, became_changed, became_unchanged, first_requests, no_meta, tells_both, tells_emptied, tells_no_rows, tells_rows, tells_stored}
+use Rattle.desk_versions.proofs.FoundTables.{IsFoundFor, IsSettled, became_changed, became_unchanged, first_requests, no_meta, tells_both, tells_emptied, tells_no_rows, tells_rows, tells_stored}
 use Rattle.desk_versions.proofs.SetVersions.{stands_set, version_stands}
 
 some_is : (m n : ℕ) → ◌≡◌ {A = Option ℕ} (Some m) (Some n) → m ≡ n
@@ -63,6 +63,11 @@ module _ (s0 s1 s2 : State) (settled : IsSettled s0) (read : IsVersionRead s0 s1
   became_first e makes again = became_unchanged migration Migrated s0 s1 s2 settled read e again.premise (λ clean db shown tells. inr (tt, λ rows any d may. left_of e makes again clean db shown tells rows any d may))
 
 -- ---- against lists of requests
+
+-- the database is of those requests, in version 1 or in version 2, or it has no table and they are
+-- none
+abbrev pub IsOfRequests : Database → List Request → Type 0
+IsOfRequests db L = HoldsFirstRequests db L ⊎ IsFoundFor db L
 
 -- rows of version 1 tell no other
 first_tells : {A : Type 0} (db : Database) (version : Option ℕ) → Tells db version → (rows : DeskRows) → HoldsFirst db rows → (L : List Request) → version_in rows ≡ Some 1 → ¬ (version ≡ Some 1) → A

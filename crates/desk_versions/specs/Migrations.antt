@@ -5,7 +5,7 @@ use Rattle.sqlite.specs.Files.{HoldsDatabase}
 use Rattle.sqlite_wal.specs.Recovery.{Image}
 use Rattle.desk_tables.specs.Rows.{DeskRows, Holds, HoldsFirst, with_version}
 use Rattle.series_rules.specs.declared.requests.Request.{Request}
-use Rattle.desk_versions.specs.Openings.{AreFilesOf, ByFound, FindsSuch, IsFoundFor, Way}
+use Rattle.desk_versions.specs.Openings.{AreFilesOf, ByFound, FindsSuch, Way}
 use Rattle.desk_rows.specs.Stands.{StandsForIn}
 use Rattle.desk_versions.specs.declared.version_two.MigrateAnswer.{MigrateAnswer}
 use Rattle.desk_versions.specs.declared.version_two.MigrateAnswer.TheVariants.{Migrated, AlreadyTwo}
@@ -13,11 +13,6 @@ use Rattle.desk_versions.specs.declared.version_two.MigrateAnswer.TheVariants.{M
 -- the database is one of version 1, with the rows of what those requests come to
 abbrev pub HoldsFirstRequests : Database → List Request → Type 0
 HoldsFirstRequests db L = (rows : DeskRows) × HoldsFirst db rows × StandsForIn 1 rows L
-
--- the database is of those requests, in version 1 or in version 2, or it has no table and they are
--- none
-abbrev pub IsOfRequests : Database → List Request → Type 0
-IsOfRequests db L = HoldsFirstRequests db L ⊎ IsFoundFor db L
 
 -- of rows of version 1 are made the same in version 2
 abbrev pub MakesSecond : Database → DeskRows → Database → Type 0

@@ -1,5 +1,5 @@
 -- What is found where a desk is opened, and what opening it leaves.
-use Rattle.std.specs.Prelude.{◌≡◌, ◌⊎◌, ℕ, true, false, List, [], Option, Some, None, Result, IfOk, IfErr, OnOk, OnErr, IsSome, IsTrue, ⊤}
+use Rattle.std.specs.Prelude.{◌≡◌, ◌⊎◌, ℕ, true, false, List, [], Option, Some, None, Result, IfOk, IfErr, OnOk, IsTrue, ⊤}
 use Rattle.std.specs.List.{list_any}
 use Rattle.sqlite.specs.Effect.{Database, IsDatabase}
 use Rattle.sqlite.specs.Files.{AreFoundIn, HoldsDatabase, IsNothing, LeavesFiles, over_files}
@@ -12,12 +12,12 @@ use Rattle.sqlite_disk.specs.declared.Files.{Files}
 use Rattle.sqlite_trees.specs.Tree.{Trees}
 use Rattle.sqlite_wal.specs.Recovery.{Image}
 use Rattle.desk_tables.specs.Meta.{HoldsMeta, version_among}
-use Rattle.desk_tables.specs.Rows.{DeskRows, Holds, HoldsFirst, HoldsUnindexed, MetaRow, first_rows, version_in}
+use Rattle.desk_tables.specs.Rows.{DeskRows, Holds, HoldsFirst, HoldsUnindexed, MetaRow, first_rows}
 use Rattle.desk_tables.specs.Schema.{is_meta, lacks_index, schema_0}
 use Rattle.desk_tables.specs.Transactions.{IsEmptied, LeavesOnly}
 use Rattle.onix_records.specs.declared.faults.StoreFault.{StoreFault}
 use Rattle.series_rules.specs.declared.requests.Request.{Request}
-use Rattle.desk_rows.specs.Desks.{AreRowsOf, HoldsSecond, KeepsRequests, StoresRequests}
+use Rattle.desk_rows.specs.Desks.{AreRowsOf, HoldsSecond}
 use Rattle.desk_versions.specs.declared.opening.OpenFault.{OpenFault}
 use Rattle.desk_versions.specs.declared.opening.OpenFault.TheVariants.{Store, OtherVersion}
 
@@ -37,10 +37,6 @@ AreTreesOf Is d = (db : Database) × (db.trees ≡ d) × Is db
 -- the database is a desk's, of version 2 or of version 1, with these rows
 abbrev pub HoldsAny : Database → DeskRows → Type 0
 HoldsAny db rows = HoldsSecond db rows ⊎ HoldsFirst db rows
-
--- the database holds what those requests come to, or it has no table and they are none
-abbrev pub IsFoundFor : Database → List Request → Type 0
-IsFoundFor db L = StoresRequests db L ⊎ (IsEmptied schema_0 db × (L ≡ []))
 
 -- The database tells that version, or none: the version is that of the table `meta` of a desk
 -- alone, as far as its rows can be read, whatever tables stand beside it.

@@ -6,29 +6,13 @@ use watched_output::shown_texts::push_shown;
 /// How many characters of a text are shown.
 pub(crate) const SHOWN: usize = 100;
 
-// Bytes as a text, up to the first that is none of UTF-8: only the bytes at which reading stopped
-// have one.
-fn text_of(bytes: &[u8]) -> &str {
-    match std::str::from_utf8(bytes) {
-        Ok(text) => text,
-        Err(error) => {
-            let whole = bytes.get(..error.valid_up_to()).unwrap_or(b"");
-            std::str::from_utf8(whole).unwrap_or("")
-        }
-    }
-}
-
 /// Adds what stands in a feed, or that nothing stands there.
 pub(crate) fn push_value(line: &mut String, value: &[u8]) -> Result<(), AllocError> {
-    push_shown(
-        line,
-        if value.is_empty() {
-            "missing"
-        } else {
-            text_of(value)
-        },
-        SHOWN,
-    )
+    if value.is_empty() {
+        return line.push_str("missing");
+    }
+    let text = String::from_utf8_lossy(*line.allocator(), value)?;
+    push_shown(line, text.as_str(), SHOWN)
 }
 
 /// Adds a reason, with what stands in the feed in the place of its `..`.
@@ -40,13 +24,5 @@ pub(crate) fn push_reason(line: &mut String, words: &str, value: &[u8]) -> Resul
             line.push_str(behind)
         }
         None => line.push_str(words),
-    }
-}
-
-/// The name of a stranger, of how it is called: its name, and the addresses of namespaces.
-pub(crate) fn name_of_stranger(called: &[u8]) -> &[u8] {
-    match called.iter().position(|byte| *byte == b'\n') {
-        Some(end) => called.get(..end).unwrap_or(called),
-        None => called,
     }
 }

@@ -1,7 +1,8 @@
 //! What is counted of the FILEs of a run.
 
-use crate::reasons::{is_counted_alone, push_fate, words_of};
-use feed_conversion::Counted;
+ghost use Rattle.std.specs.Prelude.{◌<◌};
+
+use crate::reasons::{push_fate, told_of};
 use feed_mapping::{Note, ReasonKind};
 use std::alloc::{AllocError, Global};
 
@@ -32,7 +33,7 @@ pub(crate) const WRONG: usize = 11;
 
 pub(crate) const NOTES: usize = 12;
 
-const WORDS: [&str; 13] = [
+static WORDS: [&str; 13] = [
     "no SupplyDetail of the supplier of --supplier in a FILE with others",
     "products emptied",
     "products left without a Price",
@@ -65,22 +66,6 @@ pub struct Summary {
     counts: [u64; 13],
 }
 
-// A text where it is a code of two digits, and `..` in place of another.
-fn code_of(text: &[u8]) -> [u8; 2] {
-    match text {
-        [first, second] if first.is_ascii_digit() && second.is_ascii_digit() => [*first, *second],
-        _ => *b"..",
-    }
-}
-
-// Adds a count of what these words say.
-fn push_count(text: &mut String, prefix: &str, words: &str, count: u64) -> Result<(), AllocError> {
-    if count == 0 {
-        return Ok(());
-    }
-    write!(text, "{prefix}{words}: {count}\n")
-}
-
 impl Summary {
     pub(crate) fn new(alloc: Global) -> Summary {
         Summary {
@@ -96,11 +81,11 @@ impl Summary {
         }
     }
 
-    // Counts a reason as often as this says.
+    // Counts a reason as often as this says. Two that have the same words are one.
     fn count_reason(&mut self, more: ReasonCount) -> Result<(), AllocError> {
-        let words = words_of(more.kind);
+        let words = told_of(more.kind).words;
         for counted in self.reasons.iter_mut() {
-            let is_same = counted.name == more.name && words_of(counted.kind) == words;
+            let is_same = counted.name == more.name && told_of(counted.kind).words == words;
             if is_same && counted.code == more.code {
                 counted.count = counted.count.saturating_add(more.count);
                 return Ok(());
@@ -112,27 +97,21 @@ impl Summary {
 
     /// Counts a note.
     pub(crate) fn add(&mut self, note: Note<'_>) -> Result<(), AllocError> {
-        let kind = note.reason.kind;
-        self.count(NOTES, u64::from(!is_counted_alone(kind)));
         self.count_reason(ReasonCount {
             name: note.line.name,
-            kind,
-            code: code_of(note.reason.text),
+            kind: note.reason.kind,
+            code: match note.reason.text {
+                [tens @ b'0'..=b'9', ones @ b'0'..=b'9'] => [*tens, *ones],
+                _ => *b"..",
+            },
             count: 1,
         })
     }
 
-    /// Counts a FILE of whose products this is told.
-    pub(crate) fn count_file(&mut self, told: Counted, has_products: bool) {
-        self.count(WRONG, u64::from(told.wrong));
-        self.count(NO_PRODUCT, u64::from(!has_products));
-        self.count(NO_SUPPLIER, u64::from(told.lacks_supplier));
-    }
-
     /// Counts all that another has counted.
     pub(crate) fn add_all(&mut self, other: &Summary) -> Result<(), AllocError> {
-        for place in 0..other.counts.len() {
-            self.count(place, other.counts[place]);
+        for (place, count) in other.counts.iter().enumerate() {
+            self.count(place, *count);
         }
         for counted in other.reasons.iter() {
             self.count_reason(*counted)?;
@@ -140,30 +119,32 @@ impl Summary {
         Ok(())
     }
 
-    // Whether nothing was counted but products.
-    fn is_empty(&self) -> bool {
-        let has_counts = self
-            .counts
-            .iter()
-            .enumerate()
-            .any(|(place, count)| place != PRODUCTS && *count != 0);
-        self.reasons.is_empty() && !has_counts
+    // Adds the line of a count that is not 0.
+    fn push_count(&self, place: usize, prefix: &str, text: &mut String) -> Result<(), AllocError>
+        requires { place < 13 }
+    {
+        match self.counts[place] {
+            0 => Ok(()),
+            count => write!(text, "{prefix}{}: {count}\n", WORDS[place]),
+        }
     }
 
     /// Adds the lines of the summary: where nothing of a FILE is of the supplier that is named, that;
-    /// one for each reason, and one for each of what is counted beside, the notes last.
+    /// one for each reason, and one for each of what is counted beside, the notes last. Products
+    /// alone have none.
     pub(crate) fn push_lines(&self, prefix: &str, text: &mut String) -> Result<(), AllocError> {
-        if self.is_empty() {
+        let mut counts = self.counts.iter().enumerate();
+        if self.reasons.is_empty() && !counts.any(|(at, count)| at != PRODUCTS && *count != 0) {
             return Ok(());
         }
-        push_count(text, prefix, WORDS[NO_SUPPLIER], self.counts[NO_SUPPLIER])?;
+        self.push_count(NO_SUPPLIER, prefix, text)?;
         for counted in self.reasons.iter() {
             text.push_str(prefix)?;
-            push_fate(text, counted.name, counted.kind, &counted.code)?;
+            push_fate(text, counted.name, told_of(counted.kind), &counted.code)?;
             write!(text, ": {}\n", counted.count)?;
         }
         for place in EMPTIED..WORDS.len() {
-            push_count(text, prefix, WORDS[place], self.counts[place])?;
+            self.push_count(place, prefix, text)?;
         }
         Ok(())
     }

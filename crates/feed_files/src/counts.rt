@@ -9,6 +9,7 @@ use crate::summary::{
     AGAIN, EMPTIED, OF_OTHERS, OF_SEVERAL, OTHER_DETAILS, PRODUCTS, Summary, UNPRICED, WITH_RIGHTS,
 };
 use csv_records::buffer::RecordBuffer;
+use csv_records::record::Record;
 use feed_mapping::{
     Composite, Note, Pair, first_composite, is_of_other, next_composite, next_detail, text_or_empty,
 };
@@ -148,23 +149,31 @@ fn has_world_supply(named: Option<Pair<'_>>, product: &Elements<'_>, notes: &[No
     false
 }
 
-// Whether the records of a Product are of SupplyDetails of different suppliers, by type and value, or
-// by name where neither has them.
+// The supplier of a record of a SupplyDetail, by type and value, or by name where it has neither.
+fn supplier_of<'a>(record: &Record<'a>) -> [&'a str; 3] {
+    let (id_type, id_value) = (record.get(2).unwrap_or(""), record.get(3).unwrap_or(""));
+    if id_type.is_empty() && id_value.is_empty() {
+        ["", "", record.get(4).unwrap_or("")]
+    } else {
+        [id_type, id_value, ""]
+    }
+}
+
+// Whether the records of a Product are of SupplyDetails of different suppliers.
 fn are_of_several(written: &RecordBuffer) -> bool {
     let mut first = None;
     for index in 0..written.len() {
         let record = written.record(index);
         if record.get(0) == Some("SupplyDetail") {
-            let party = (record.get(2), record.get(3));
-            let name = if party == (Some(""), Some("")) {
-                record.get(4)
-            } else {
-                None
-            };
-            if first.is_some_and(|first| first != (party, name)) {
-                return true;
+            let supplier = supplier_of(&record);
+            match first {
+                None => first = Some(supplier),
+                Some(other) => {
+                    if other != supplier {
+                        return true;
+                    }
+                }
             }
-            first = Some((party, name));
         }
     }
     false

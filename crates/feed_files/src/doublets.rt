@@ -72,14 +72,15 @@ pub(crate) fn count_doublets(
     let mut detail = 0;
     for index in 0..written.len() {
         written.record(index).fill(&mut fields)?;
-        match fields.split_first() {
-            Some((&"Price", rest)) => {
-                if let Ok(price) = read_price(alloc, opening, rest) {
-                    let key = key_of(alloc, detail, &price)?;
-                    prices.push((key, index, price.amount.thousandths()))?;
-                }
-            }
-            _ => detail = index,
+        let is_price = match fields.first() {
+            Some(name) => *name == "Price",
+            None => false,
+        };
+        if !is_price {
+            detail = index;
+        } else if let Ok(price) = read_price(alloc, opening, &fields.as_slice()[1..]) {
+            let key = key_of(alloc, detail, &price)?;
+            prices.push((key, index, price.amount.thousandths()))?;
         }
     }
     prices.sort()?;

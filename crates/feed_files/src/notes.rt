@@ -9,8 +9,8 @@ use csv_records::buffer::RecordBuffer;
 use csv_records::fields::FieldBuffer;
 use feed_conversion::{Counted, Fault, Options};
 use feed_mapping::{
-    Choices, Composite, Note, ReasonKind, SupplyChoices, Wrong, add_product, first_reason,
-    malformed_field, next_composite, read_heading, text_or_empty,
+    Composite, Note, ReasonKind, SupplyChoices, Wrong, add_product, first_reason, malformed_field,
+    next_composite, read_heading, text_or_empty,
 };
 use feed_outline::first_called;
 use feed_xml::Position;
@@ -62,7 +62,10 @@ pub struct Notes<'a> {
 
 // The name of a stranger, of how it is called: its name, and the addresses of namespaces.
 fn name_of_stranger(called: &[u8]) -> &[u8] {
-    called.split(|byte| *byte == b'\n').next().unwrap_or(called)
+    match called.iter().position(|byte| *byte == b'\n') {
+        Some(end) => called.get(..end).unwrap_or(called),
+        None => called,
+    }
 }
 
 /// Adds the beginning of a line on what stands at a place of a FILE.

@@ -25,6 +25,8 @@ pub struct RefusedFile<'a> {
     pub unread: &'a Option<FileFault>,
 }
 
+const NOTHING: &[u8] = b"";
+
 // Words, and what the feed has in the place of their `..`.
 type Words<'a> = (&'static str, &'a [u8]);
 
@@ -43,19 +45,22 @@ fn of_document<'a>(fault: &'a feed_xml::Fault, told: &'a RefusalHints) -> Words<
         }
         (feed_xml::Fault::NotText, _) => (
             "what is no text of XML in its encoding, as of a packed file or of another encoding",
-            b"",
+            NOTHING,
         ),
-        (feed_xml::Fault::TooDeep, _) => ("more than 1,000 elements within one another", b""),
+        (feed_xml::Fault::TooDeep, _) => ("more than 1,000 elements within one another", NOTHING),
         (feed_xml::Fault::TooLong, _) => {
-            ("a tag, name or comment of more than 4,194,304 bytes", b"")
+            (
+                "a tag, name or comment of more than 4,194,304 bytes",
+                NOTHING,
+            )
         }
         (feed_xml::Fault::LargeTag, _) => {
             (
                 "a tag with more than 64 attributes, or 65,536 bytes of them",
-                b"",
+                NOTHING,
             )
         }
-        _ => ("the file ends too early", b""),
+        _ => ("the file ends too early", NOTHING),
     }
 }
 
@@ -72,19 +77,22 @@ fn of_unread<'a>(fault: &'a feed_outline::Fault, told: &'a RefusalHints) -> Word
         feed_outline::Fault::Message(Wrong::Release(release, _)) => {
             let release = match release {
                 Some(release) => release.as_slice(),
-                None => b"",
+                None => NOTHING,
             };
             ("release .., not 3.0 or 3.1", release)
         }
         feed_outline::Fault::Reference => {
             let name = match &told.reference {
                 Some(name) => name.as_slice(),
-                None => b"",
+                None => NOTHING,
             };
             ("&..; stands for nothing", name)
         }
         feed_outline::Fault::TooLarge => {
-            ("a Header or a Product of more than 4,194,304 bytes", b"")
+            (
+                "a Header or a Product of more than 4,194,304 bytes",
+                NOTHING,
+            )
         }
     }
 }
@@ -111,8 +119,11 @@ fn of_header(refusal: HeaderRefusal) -> &'static str {
 fn of_refused<'a>(refusal: &'a Refusal, notes: &'a Notes<'_>) -> (Position, Words<'a>) {
     match refusal {
         Refusal::NoHeader(place) => {
-            let place = place.unwrap_or(Position::first());
-            (place, ("no Header before the first Product", b""))
+            let place = match place {
+                Some(place) => *place,
+                None => Position::first(),
+            };
+            (place, ("no Header before the first Product", NOTHING))
         }
         Refusal::Header(refusal, number, place) => {
             let value = match refusal {
@@ -121,13 +132,13 @@ fn of_refused<'a>(refusal: &'a Refusal, notes: &'a Notes<'_>) -> (Position, Word
             };
             (*place, (of_header(*refusal), value))
         }
-        Refusal::SecondHeader(place) => (*place, ("a second Header", b"")),
+        Refusal::SecondHeader(place) => (*place, ("a second Header", NOTHING)),
         Refusal::OtherNamespace(place) => (*place, (STRANGER, notes.stranger.as_bytes())),
         Refusal::Wrong(_, _, reference, place) => {
             let words = " products wrong; --wrong all lets them through; the first: ..";
             (*place, (words, reference.as_slice()))
         }
-        Refusal::Parts(_, place) => (*place, (AGREED, b"")),
+        Refusal::Parts(_, place) => (*place, (AGREED, NOTHING)),
     }
 }
 

@@ -101,7 +101,7 @@ impl Summary {
             name: note.line.name,
             kind: note.reason.kind,
             code: match note.reason.text {
-                [tens @ b'0'..=b'9', ones @ b'0'..=b'9'] => [*tens, *ones],
+                [tens, ones] if tens.is_ascii_digit() && ones.is_ascii_digit() => [*tens, *ones],
                 _ => *b"..",
             },
             count: 1,

@@ -166,11 +166,11 @@ pub(crate) fn write_fault<E: Write>(
 ) {
     let form = file.form();
     let name = form.name;
-    let Ok(why) = why(alloc, file, text, number) else {
+    let Ok(told) = why(alloc, file, text, number) else {
         return;
     };
     let _ = match number {
-        Some(number) => write!(errors, "onixdesk: {name}: {}{number}: {why}\n", form.item),
-        None => write!(errors, "onixdesk: {name}: {}{why}\n", form.whole),
+        Some(number) => write!(errors, "onixdesk: {name}: {}{number}: {told}\n", form.item),
+        None => write!(errors, "onixdesk: {name}: {}{told}\n", form.whole),
     };
 }

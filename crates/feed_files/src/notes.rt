@@ -3,7 +3,7 @@
 use crate::counts::{count_again, count_product, is_of_others};
 use crate::doublets::count_doublets;
 use crate::reasons::{Fate, Told, push_fate, told_of};
-use crate::shown::{SHOWN, push_reason, push_value};
+use crate::shown::{SHOWN, push_value, push_words};
 use crate::summary::{AGAIN, DOUBLETS, NO_PRODUCT, NO_SUPPLIER, NOTES, Summary, WRONG};
 use csv_records::buffer::RecordBuffer;
 use csv_records::fields::FieldBuffer;
@@ -90,7 +90,7 @@ fn push_first_reason(
             let first = first_reason(scope.alloc, supplier, id_type, kind, &supply.below)?;
             if let Some(first) = first {
                 text.push_str(", the first for: ")?;
-                push_reason(text, told_of(first.kind).words, first.text)?;
+                push_words(text, told_of(first.kind).words, first.text)?;
             }
         }
         rest = behind;

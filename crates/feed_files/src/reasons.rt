@@ -2,12 +2,12 @@
 
 ghost use Rattle.std.specs.Prelude.{◌≡◌, ◌⊎◌};
 
-use crate::shown::{push_reason, push_value};
+use crate::shown::{push_value, push_words};
 use feed_mapping::{Foreign, ReasonKind, Wrong};
 use std::alloc::AllocError;
 
 /// That an element is a stranger, of this name.
-pub(crate) const STRANGER: &str = "an element in another namespace or spelling: ..";
+pub(crate) const STRANGER: &str = "an element in another namespace or spelling: *";
 
 /// What becomes of an element for a reason.
 #[derive(Clone, Copy, PartialEq, Eq)]
@@ -27,7 +27,7 @@ pub(crate) enum Fate {
 }
 
 /// A reason, what becomes of an element for it, and its words: what the feed has stands in the place
-/// of `..`.
+/// of their star.
 pub(crate) struct Told {
     pub(crate) kind: ReasonKind,
     pub(crate) fate: Fate,
@@ -41,24 +41,24 @@ macro_rules! reasons {
 }
 
 static REASONS: [Told; 69] = reasons! {
-    Foreign PriceQualifier LeftOut "PriceQualifier ..",
-    Foreign PricePer LeftOut "PricePer ..",
-    Foreign PriceCondition LeftOut "PriceConditionType ..",
-    Foreign PriceConstraint LeftOut "PriceConstraintType ..",
+    Foreign PriceQualifier LeftOut "PriceQualifier *",
+    Foreign PricePer LeftOut "PricePer *",
+    Foreign PriceCondition LeftOut "PriceConditionType *",
+    Foreign PriceConstraint LeftOut "PriceConstraintType *",
     Foreign PriceCoded LeftOut "PriceCoded",
-    Foreign CurrencyZone LeftOut "CurrencyZone ..",
+    Foreign CurrencyZone LeftOut "CurrencyZone *",
     Foreign EpubLicense LeftOut "EpubLicense",
     Foreign EpubLicenseWithDate LeftOut "EpubLicenseWithDate",
-    Foreign DateFormat LeftOut "PriceDate in format ..",
-    Foreign NoCharge LeftOut "PriceAmount .. is no price",
+    Foreign DateFormat LeftOut "PriceDate in format *",
+    Foreign NoCharge LeftOut "PriceAmount * is no price",
     Foreign BesideDates LeftOut "beside a Price that is left out for its PriceDates",
     Foreign LongTerritory LeftOut
     "CountriesExcluded with the countries of Prices beside it has more than 1,024 bytes",
-    Foreign RegionAlone LeftOut "the region .. without a country or WORLD",
-    Foreign RegionOfNoCountry LeftOut "the region .., no part of a country",
-    Foreign RegionIncluded LeftOut "the region .. beside a country or WORLD",
-    Foreign RegionExcluded LeftOut "the region .., a part of a country",
-    Foreign CountryName Written "with the country .. by another code",
+    Foreign RegionAlone LeftOut "the region * without a country or WORLD",
+    Foreign RegionOfNoCountry LeftOut "the region *, no part of a country",
+    Foreign RegionIncluded LeftOut "the region * beside a country or WORLD",
+    Foreign RegionExcluded LeftOut "the region *, a part of a country",
+    Foreign CountryName Written "with the country * by another code",
     Foreign Discount Discount "not read",
     Foreign DiscountCoded Discount "not read",
     Foreign Rounded Counted "rounded",
@@ -70,43 +70,43 @@ static REASONS: [Told; 69] = reasons! {
     Foreign NoMarketLeft LeftOut "every Market is left out",
     Foreign LongMarkets LeftOut "its Markets together have more than 1,024 bytes",
     Foreign NoSupplyLeft Emptied "no ProductSupply is left",
-    Foreign IdentifierType LeftOut "ProductIDType ..",
-    Foreign IdentifierValue LeftOut "IDValue ..",
+    Foreign IdentifierType LeftOut "ProductIDType *",
+    Foreign IdentifierValue LeftOut "IDValue *",
     Foreign NoIsbn Written "without an ISBN of thirteen digits",
-    Foreign Ignored Written "of NotificationType .., which the desk ignores",
-    Wrong OldElement LeftOut ".. of ONIX 2.1",
-    Wrong ComesAgain LeftOut ".. comes again",
+    Foreign Ignored Written "of NotificationType *, which the desk ignores",
+    Wrong OldElement LeftOut "* of ONIX 2.1",
+    Wrong ComesAgain LeftOut "* comes again",
     Wrong NoTerritory LeftOut "no Territory",
     Wrong EmptyTerritory LeftOut "an empty Territory",
-    Wrong CountryAsRegion LeftOut "the region .., a country",
-    Wrong DateRole LeftOut "PriceDateRole ..",
+    Wrong CountryAsRegion LeftOut "the region *, a country",
+    Wrong DateRole LeftOut "PriceDateRole *",
     Wrong OtherDay LeftOut "two of its PriceDates give another day",
-    Wrong NoDate LeftOut "PriceDate of role .. without Date",
-    Wrong NotTwoDays LeftOut "Date .. is not two days",
-    Wrong Day LeftOut "Date .. is no day",
-    Wrong Month LeftOut "Date .. is no month",
-    Wrong Year LeftOut "Date .. is no year",
-    Wrong PriceType LeftOut "PriceType ..",
-    Wrong Amount LeftOut "PriceAmount ..",
-    Wrong Currency LeftOut "CurrencyCode ..",
-    Wrong CountriesIncluded LeftOut "CountriesIncluded ..",
-    Wrong CountriesExcluded LeftOut "CountriesExcluded ..",
+    Wrong NoDate LeftOut "PriceDate of role * without Date",
+    Wrong NotTwoDays LeftOut "Date * is not two days",
+    Wrong Day LeftOut "Date * is no day",
+    Wrong Month LeftOut "Date * is no month",
+    Wrong Year LeftOut "Date * is no year",
+    Wrong PriceType LeftOut "PriceType *",
+    Wrong Amount LeftOut "PriceAmount *",
+    Wrong Currency LeftOut "CurrencyCode *",
+    Wrong CountriesIncluded LeftOut "CountriesIncluded *",
+    Wrong CountriesExcluded LeftOut "CountriesExcluded *",
     Wrong Territory LeftOut "CountriesIncluded or CountriesExcluded",
-    Wrong Quantity LeftOut "MinimumOrderQuantity ..",
-    Wrong SupplierRole LeftOut "SupplierRole ..",
-    Wrong SupplierType LeftOut "SupplierIDType ..",
-    Wrong SupplierValue LeftOut "SupplierIdentifier with IDValue ..",
-    Wrong SupplierName LeftOut "SupplierName ..",
+    Wrong Quantity LeftOut "MinimumOrderQuantity *",
+    Wrong SupplierRole LeftOut "SupplierRole *",
+    Wrong SupplierType LeftOut "SupplierIDType *",
+    Wrong SupplierValue LeftOut "SupplierIdentifier with IDValue *",
+    Wrong SupplierName LeftOut "SupplierName *",
     Wrong Supplier LeftOut "Supplier without identifier and name",
-    Wrong Availability LeftOut "ProductAvailability ..",
-    Wrong Unpriced LeftOut "UnpricedItemType ..",
+    Wrong Availability LeftOut "ProductAvailability *",
+    Wrong Unpriced LeftOut "UnpricedItemType *",
     Wrong SupplyDetail LeftOut "a text of its Supplier",
     Wrong NoMarketLeft LeftOut "every Market is left out",
     Wrong NoDetailLeft LeftOut "every SupplyDetail is left out",
-    Wrong IdentifierType LeftOut "ProductIDType ..",
-    Wrong IdentifierValue LeftOut "IDValue ..",
-    Wrong RecordReference Lost "RecordReference ..",
-    Wrong NotificationType Emptied "NotificationType ..",
+    Wrong IdentifierType LeftOut "ProductIDType *",
+    Wrong IdentifierValue LeftOut "IDValue *",
+    Wrong RecordReference Lost "RecordReference *",
+    Wrong NotificationType Emptied "NotificationType *",
     Wrong NoIdentifierLeft Emptied "no right ProductIdentifier",
     Wrong OtherNamespace Emptied STRANGER,
     Wrong NoSupplyLeft Emptied "no ProductSupply is left",
@@ -146,5 +146,5 @@ pub(crate) fn push_fate(
         Fate::LeftOut | Fate::Lost => " left out: ",
         Fate::Written | Fate::Counted | Fate::Discount => " ",
     })?;
-    push_reason(line, told.words, value)
+    push_words(line, told.words, value)
 }

@@ -2,7 +2,7 @@
 
 use crate::notes::{Notes, push_place};
 use crate::reasons::STRANGER;
-use crate::shown::push_reason;
+use crate::shown::push_words;
 use feed_conversion::{Fault, Options, Refusal};
 use feed_mapping::HeaderRefusal;
 use feed_outline::{RefusalHints, Wrong};
@@ -27,21 +27,18 @@ pub struct RefusedFile<'a> {
 
 const NOTHING: &[u8] = b"";
 
-// Words, and what the feed has in the place of their `..`.
+// Words, and what the feed has in the place of their star.
 type Words<'a> = (&'static str, &'a [u8]);
 
 // Why a file is no document. Where nothing else is told it is malformed by its end alone.
 fn of_document<'a>(fault: &'a feed_xml::Fault, told: &'a RefusalHints) -> Words<'a> {
     match (fault, &told.stuck) {
         (feed_xml::Fault::UnknownEncoding(name), _) => match name.as_slice() {
-            b"UTF-16" => (
-                "encoding ..; iconv -f UTF-16 -t UTF-8 recodes it",
-                b"UTF-16",
-            ),
-            name => ("encoding .. is not read", name),
+            b"UTF-16" => ("encoding *; iconv -f UTF-16 -t UTF-8 recodes it", b"UTF-16"),
+            name => ("encoding * is not read", name),
         },
         (feed_xml::Fault::Malformed, Some(at)) => {
-            ("no well-formed XML at ..", at.begins.as_slice())
+            ("no well-formed XML at *", at.begins.as_slice())
         }
         (feed_xml::Fault::NotText, _) => (
             "what is no text of XML in its encoding, as of a packed file or of another encoding",
@@ -70,7 +67,7 @@ fn of_unread<'a>(fault: &'a feed_outline::Fault, told: &'a RefusalHints) -> Word
         feed_outline::Fault::Document(fault) => of_document(fault, told),
         feed_outline::Fault::Message(Wrong::Root(name)) => {
             (
-                "root .. is neither ONIXMessage nor ONIXmessage",
+                "root * is neither ONIXMessage nor ONIXmessage",
                 name.as_slice(),
             )
         }
@@ -79,14 +76,14 @@ fn of_unread<'a>(fault: &'a feed_outline::Fault, told: &'a RefusalHints) -> Word
                 Some(release) => release.as_slice(),
                 None => NOTHING,
             };
-            ("release .., not 3.0 or 3.1", release)
+            ("release *, not 3.0 or 3.1", release)
         }
         feed_outline::Fault::Reference => {
             let name = match &told.reference {
                 Some(name) => name.as_slice(),
                 None => NOTHING,
             };
-            ("&..; stands for nothing", name)
+            ("&*; stands for nothing", name)
         }
         feed_outline::Fault::TooLarge => {
             (
@@ -107,10 +104,10 @@ fn of_header(refusal: HeaderRefusal) -> &'static str {
         }
         HeaderRefusal::NoSuchAddressee => "none of several addressees is that of --addressee",
         HeaderRefusal::NoNumber => "no MessageNumber; --number N gives one",
-        HeaderRefusal::WrongNumber => "MessageNumber .. is none; --number N gives one",
-        HeaderRefusal::NumberTooGreat => "MessageNumber .. and --number-offset exceed 999999999",
+        HeaderRefusal::WrongNumber => "MessageNumber * is none; --number N gives one",
+        HeaderRefusal::NumberTooGreat => "MessageNumber * and --number-offset exceed 999999999",
         HeaderRefusal::LastNumberTooGreat => "the number of its last part exceeds 999999999",
-        HeaderRefusal::Malformed => "a Header that the desk would call malformed: ..",
+        HeaderRefusal::Malformed => "a Header that the desk would call malformed: *",
     }
 }
 
@@ -135,7 +132,7 @@ fn of_refused<'a>(refusal: &'a Refusal, notes: &'a Notes<'_>) -> (Position, Word
         Refusal::SecondHeader(place) => (*place, ("a second Header", NOTHING)),
         Refusal::OtherNamespace(place) => (*place, (STRANGER, notes.stranger.as_bytes())),
         Refusal::Wrong(_, _, reference, place) => {
-            let words = " products wrong; --wrong all lets them through; the first: ..";
+            let words = " products wrong; --wrong all lets them through; the first: *";
             (*place, (words, reference.as_slice()))
         }
         Refusal::Parts(_, place) => (*place, (AGREED, NOTHING)),
@@ -178,7 +175,7 @@ pub(crate) fn push_refusal(
     if let Fault::Refused(refusal) = fault {
         push_numbers(line, refusal, known.options)?;
     }
-    push_reason(line, words, value)?;
+    push_words(line, words, value)?;
     line.push_str("\n")
 }
 

@@ -1,5 +1,8 @@
 //! Texts of a feed, as one line of a terminal shows them.
 
+ghost use Rattle.std.specs.Prelude.{◌≡◌, ◌++◌, OnOk, string_bytes};
+ghost use Rattle.feed_files.specs.Lines.{filled, value_text};
+
 use std::alloc::AllocError;
 use watched_output::shown_texts::push_shown;
 
@@ -7,7 +10,9 @@ use watched_output::shown_texts::push_shown;
 pub(crate) const SHOWN: usize = 100;
 
 /// Adds what stands in a feed, or that nothing stands there.
-pub(crate) fn push_value(line: &mut String, value: &[u8]) -> Result<(), AllocError> {
+pub(crate) fn push_value(line: &mut String, value: &[u8]) -> Result<(), AllocError>
+    ensures { OnOk result (string_bytes line.new ≡ string_bytes line.old ++ value_text value.now) }
+{
     if value.is_empty() {
         return line.push_str("missing");
     }
@@ -15,9 +20,12 @@ pub(crate) fn push_value(line: &mut String, value: &[u8]) -> Result<(), AllocErr
     push_shown(line, text.as_str(), SHOWN)
 }
 
-/// Adds a reason, with what stands in the feed in the place of its `..`.
-pub(crate) fn push_reason(line: &mut String, words: &str, value: &[u8]) -> Result<(), AllocError> {
-    match words.split_once("..") {
+/// Adds words, with what the feed has in the place of their star.
+pub(crate) fn push_words(line: &mut String, words: &str, value: &[u8]) -> Result<(), AllocError>
+    ensures { OnOk result
+        (string_bytes line.new ≡ string_bytes line.old ++ filled words.now value.now) }
+{
+    match words.split_once('*') {
         Some((before, behind)) => {
             line.push_str(before)?;
             push_value(line, value)?;

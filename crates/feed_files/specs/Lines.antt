@@ -1,0 +1,19 @@
+-- What the lines on standard error say.
+use Rattle.std.specs.Prelude.{ℕ, ◌==◌, ◌++◌, List, if◌then◌else◌}
+use Rattle.std.specs.Prelude.{chars, codes, length, nat_eq, nat_lt}
+use Rattle.std.specs.Str.Lossy.{utf8_lossy}
+use Rattle.std.specs.List.{after_first, before_first, position_or_len}
+use Rattle.watched_output.specs.Shown.{shown}
+
+-- what stands in a feed, or that nothing stands there
+abbrev pub value_text : List ℕ → List ℕ
+value_text value =
+    if nat_eq (length value) 0 then codes "missing" else shown 100 (chars (utf8_lossy value))
+
+-- words, with what the feed has in the place of their star
+abbrev pub filled : List ℕ → List ℕ → List ℕ
+filled words value =
+    let is_star = λ b. b == 42 in
+    if nat_lt (position_or_len is_star words) (length words)
+    then before_first is_star words ++ (value_text value ++ after_first is_star words)
+    else words

@@ -101,23 +101,7 @@ fn report_ended<E: Write>(
     }
 }
 
-// Says what ended the reading of a FILE; where what was read could not be kept, that.
-fn report_stopped<E: Write>(
-    alloc: Global,
-    known: &RefusedFile<'_>,
-    fault: &Fault,
-    kept: &Option<FileFault>,
-    errors: &mut E,
-) -> Ended
-    ensures { IsUnconverted fault.now result }
-{
-    match kept {
-        Some(kept) => report_fault(alloc, kept, errors),
-        None => report_ended(alloc, known, fault, errors),
-    }
-}
-
-// How a FILE ended that was read so.
+// How a FILE ended that was read so; where what was read could not be kept, that is said.
 fn end_of<E: Write>(
     alloc: Global,
     known: &RefusedFile<'_>,
@@ -130,7 +114,10 @@ fn end_of<E: Write>(
 {
     match read {
         Ok(told) => Ended::of_converted(*told),
-        Err(fault) => report_stopped(alloc, known, fault, kept, errors),
+        Err(fault) => match kept {
+            Some(kept) => report_fault(alloc, kept, errors),
+            None => report_ended(alloc, known, fault, errors),
+        },
     }
 }
 

@@ -5,9 +5,7 @@ ghost use Rattle.feed_conversion.specs.Tallies.{is_of_others};
 ghost use Rattle.feed_mapping.specs.Notes.{note_views};
 
 use crate::reasons::{Fate, told_of};
-use crate::summary::{
-    AGAIN, EMPTIED, OF_OTHERS, OF_SEVERAL, OTHER_DETAILS, PRODUCTS, Summary, UNPRICED, WITH_RIGHTS,
-};
+use crate::summary::{Beside, Summary};
 use csv_records::buffer::RecordBuffer;
 use csv_records::record::Record;
 use feed_mapping::{
@@ -209,17 +207,17 @@ pub(crate) fn count_product(
     let has_rights = has_record("ProductSupply", written)
         && count_at(None, &RIGHTS, below) != 0
         && has_world_supply(named, below, notes);
-    summary.count(PRODUCTS, 1);
-    summary.count(EMPTIED, u64::from(is_emptied));
-    summary.count(UNPRICED, u64::from(is_unpriced));
-    summary.count(WITH_RIGHTS, u64::from(has_rights));
-    summary.count(OF_OTHERS, u64::from(is_of_others(notes)));
+    summary.count(Beside::Products, 1);
+    summary.count(Beside::Emptied, u64::from(is_emptied));
+    summary.count(Beside::Unpriced, u64::from(is_unpriced));
+    summary.count(Beside::WithRights, u64::from(has_rights));
+    summary.count(Beside::OfOthers, u64::from(is_of_others(notes)));
     let is_of_several = named.is_none() && are_of_several(written);
-    summary.count(OF_SEVERAL, u64::from(is_of_several));
-    summary.count(AGAIN, count_again(named, below, is_deletion));
+    summary.count(Beside::OfSeveral, u64::from(is_of_several));
+    summary.count(Beside::Again, count_again(named, below, is_deletion));
     if is_written && !is_emptied && !is_deletion {
         let own = count_at(named, &DETAILS, below);
         let others = count_at(None, &DETAILS, below).saturating_sub(own);
-        summary.count(OTHER_DETAILS, others);
+        summary.count(Beside::OtherDetails, others);
     }
 }

@@ -4,7 +4,7 @@ use crate::counts::{count_again, count_product, is_of_others};
 use crate::doublets::count_doublets;
 use crate::reasons::{Fate, Told, push_fate, told_of};
 use crate::shown::{SHOWN, push_value, push_words};
-use crate::summary::{AGAIN, DOUBLETS, NO_PRODUCT, NO_SUPPLIER, NOTES, Summary, WRONG};
+use crate::summary::{Beside, Summary};
 use csv_records::buffer::RecordBuffer;
 use csv_records::fields::FieldBuffer;
 use feed_conversion::{Counted, Fault, Options};
@@ -219,7 +219,7 @@ impl<'a> Notes<'a> {
             self.opening = heading.ok().map(|heading| heading.opening);
         }
         self.summary
-            .count(AGAIN, count_again(None, &header.below, false));
+            .count(Beside::Again, count_again(None, &header.below, false));
         self.notice_stranger(first_called(&header.below));
         if self.header.is_empty() {
             if let Some(found) = malformed_field(&self.scope.options.choices, &header.below) {
@@ -253,11 +253,11 @@ impl<'a> Notes<'a> {
         if is_read || note.reason.kind.is_of_others() {
             return Ok(());
         }
-        self.summary.add(note)?;
+        self.summary.add(note, told)?;
         if told.fate == Fate::Counted || told.fate == Fate::Discount {
             return Ok(());
         }
-        self.summary.count(NOTES, 1);
+        self.summary.count(Beside::Notes, 1);
         self.all.add(&self.scope, product, note, told)?;
         if is_wrong {
             self.of_wrong.add(&self.scope, product, note, told)?;
@@ -276,7 +276,7 @@ impl<'a> Notes<'a> {
         self.has_products = true;
         count_product(&mut self.summary, named, product, written, notes);
         let doublets = self.count_doublets(product, written)?;
-        self.summary.count(DOUBLETS, doublets);
+        self.summary.count(Beside::Doublets, doublets);
         let has_wrong = notes.iter().any(|note| note.reason.kind.is_wrong());
         let is_wrong = has_wrong && !is_of_others(notes);
         for note in notes.iter() {
@@ -287,11 +287,11 @@ impl<'a> Notes<'a> {
     /// Counts the FILE, where it was converted.
     pub(crate) fn end(&mut self, read: &Result<Counted, Fault>) {
         if let Ok(told) = read {
-            self.summary.count(WRONG, u64::from(told.wrong));
+            self.summary.count(Beside::Wrong, u64::from(told.wrong));
             self.summary
-                .count(NO_PRODUCT, u64::from(!self.has_products));
+                .count(Beside::NoProduct, u64::from(!self.has_products));
             self.summary
-                .count(NO_SUPPLIER, u64::from(told.lacks_supplier));
+                .count(Beside::NoSupplier, u64::from(told.lacks_supplier));
         }
     }
 }

@@ -2,36 +2,27 @@
 
 ghost use Rattle.std.specs.Prelude.{◌<◌};
 
-use crate::reasons::{push_fate, told_of};
-use feed_mapping::{Note, ReasonKind};
+use crate::reasons::{Told, push_fate};
+use feed_mapping::Note;
 use std::alloc::{AllocError, Global};
 
-/// What is counted beside the reasons of notes, by its place among the words.
-pub(crate) const NO_SUPPLIER: usize = 0;
-
-pub(crate) const EMPTIED: usize = 1;
-
-pub(crate) const UNPRICED: usize = 2;
-
-pub(crate) const WITH_RIGHTS: usize = 3;
-
-pub(crate) const OF_OTHERS: usize = 4;
-
-pub(crate) const OF_SEVERAL: usize = 5;
-
-pub(crate) const OTHER_DETAILS: usize = 6;
-
-pub(crate) const DOUBLETS: usize = 7;
-
-pub(crate) const AGAIN: usize = 8;
-
-pub(crate) const NO_PRODUCT: usize = 9;
-
-pub(crate) const PRODUCTS: usize = 10;
-
-pub(crate) const WRONG: usize = 11;
-
-pub(crate) const NOTES: usize = 12;
+/// What is counted beside the reasons of notes, in the order of its words.
+#[derive(Clone, Copy)]
+pub(crate) enum Beside {
+    NoSupplier,
+    Emptied,
+    Unpriced,
+    WithRights,
+    OfOthers,
+    OfSeveral,
+    OtherDetails,
+    Doublets,
+    Again,
+    NoProduct,
+    Products,
+    Wrong,
+    Notes,
+}
 
 static WORDS: [&str; 13] = [
     "no SupplyDetail of the supplier of --supplier in a FILE with others",
@@ -54,7 +45,7 @@ static WORDS: [&str; 13] = [
 #[derive(Clone, Copy)]
 struct ReasonCount {
     name: &'static [u8],
-    kind: ReasonKind,
+    told: &'static Told,
     code: [u8; 2],
     count: u64,
 }
@@ -74,18 +65,17 @@ impl Summary {
         }
     }
 
-    /// Counts so many more of what stands at that place.
-    pub(crate) fn count(&mut self, place: usize, more: u64) {
-        if let Some(count) = self.counts.get_mut(place) {
+    /// Counts so many more of that.
+    pub(crate) fn count(&mut self, what: Beside, more: u64) {
+        if let Some(count) = self.counts.get_mut(what as usize) {
             *count = count.saturating_add(more);
         }
     }
 
     // Counts a reason as often as this says. Two that have the same words are one.
     fn count_reason(&mut self, more: ReasonCount) -> Result<(), AllocError> {
-        let words = told_of(more.kind).words;
         for counted in self.reasons.iter_mut() {
-            let is_same = counted.name == more.name && told_of(counted.kind).words == words;
+            let is_same = counted.name == more.name && counted.told.words == more.told.words;
             if is_same && counted.code == more.code {
                 counted.count = counted.count.saturating_add(more.count);
                 return Ok(());
@@ -95,11 +85,11 @@ impl Summary {
         Ok(())
     }
 
-    /// Counts a note.
-    pub(crate) fn add(&mut self, note: Note<'_>) -> Result<(), AllocError> {
+    /// Counts a note, of whose reason this is told.
+    pub(crate) fn add(&mut self, note: Note<'_>, told: &'static Told) -> Result<(), AllocError> {
         self.count_reason(ReasonCount {
             name: note.line.name,
-            kind: note.reason.kind,
+            told,
             code: match note.reason.text {
                 [tens, ones] if tens.is_ascii_digit() && ones.is_ascii_digit() => [*tens, *ones],
                 _ => *b"..",
@@ -110,8 +100,8 @@ impl Summary {
 
     /// Counts all that another has counted.
     pub(crate) fn add_all(&mut self, other: &Summary) -> Result<(), AllocError> {
-        for (place, count) in other.counts.iter().enumerate() {
-            self.count(place, *count);
+        for (count, more) in self.counts.iter_mut().zip(other.counts.iter()) {
+            *count = count.saturating_add(*more);
         }
         for counted in other.reasons.iter() {
             self.count_reason(*counted)?;
@@ -134,16 +124,18 @@ impl Summary {
     /// alone have none.
     pub(crate) fn push_lines(&self, prefix: &str, text: &mut String) -> Result<(), AllocError> {
         let mut counts = self.counts.iter().enumerate();
-        if self.reasons.is_empty() && !counts.any(|(at, count)| at != PRODUCTS && *count != 0) {
+        if self.reasons.is_empty()
+            && !counts.any(|(at, count)| at != Beside::Products as usize && *count != 0)
+        {
             return Ok(());
         }
-        self.push_count(NO_SUPPLIER, prefix, text)?;
+        self.push_count(0, prefix, text)?;
         for counted in self.reasons.iter() {
             text.push_str(prefix)?;
-            push_fate(text, counted.name, told_of(counted.kind), &counted.code)?;
+            push_fate(text, counted.name, counted.told, &counted.code)?;
             write!(text, ": {}\n", counted.count)?;
         }
-        for place in EMPTIED..WORDS.len() {
+        for place in 1..WORDS.len() {
             self.push_count(place, prefix, text)?;
         }
         Ok(())

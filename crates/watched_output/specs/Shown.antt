@@ -1,7 +1,7 @@
 -- What a line of a terminal shows of a text.
 use Rattle.std.specs.Prelude.{ℕ, Bool, true, false, ◌==◌, ◌++◌, List, [], ◌∷◌, codes, if◌then◌else◌}
 use Rattle.std.specs.Prelude.{encode_utf8_all, flat_map, length, nat_lt, take}
-use Rattle.std.specs.Char.Escape.{escape_unicode}
+use Rattle.std.specs.Char.Escape.{escape_default}
 use Rattle.ucd_category.specs.GeneralCategory.{general_category}
 use Rattle.ucd_category.specs.declared.GeneralCategory.{GeneralCategory}
 use Rattle.ucd_category.specs.declared.GeneralCategory.TheVariants as category
@@ -23,7 +23,7 @@ is_printable c = stands (general_category c) c
 
 -- a character as it is shown
 abbrev pub shown_char : ℕ → List ℕ
-shown_char c = if is_printable c then c ∷ [] else escape_unicode c
+shown_char c = if is_printable c then c ∷ [] else escape_default c
 
 -- so many of these characters at most, and two points where there are more
 abbrev pub shown : ℕ → List ℕ → List ℕ

@@ -31,7 +31,7 @@ fn push_char(line: &mut String, c: char) -> Result<(), AllocError>
     if is_printable(c) {
         return line.push(c);
     }
-    for part in c.escape_unicode() {
+    for part in c.escape_default() {
         line.push(part)?;
     }
     Ok(())

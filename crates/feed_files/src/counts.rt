@@ -14,7 +14,7 @@ use feed_mapping::{
 use feed_outline::{Elements, Line, Node, text_in};
 
 // What repeats, or is counted alone.
-static REPEATABLE: [&[u8]; 17] = [
+const REPEATABLE: [&[u8]; 17] = [
     b"Addressee",
     b"SenderIdentifier",
     b"AddresseeIdentifier",

@@ -72,13 +72,12 @@ pub(crate) fn count_doublets(
     let mut detail = 0;
     for index in 0..written.len() {
         written.record(index).fill(&mut fields)?;
-        let is_price = match fields.first() {
-            Some(name) => *name == "Price",
-            None => false,
+        let Some((name, rest)) = fields.as_slice().split_first() else {
+            continue;
         };
-        if !is_price {
+        if *name != "Price" {
             detail = index;
-        } else if let Ok(price) = read_price(alloc, opening, &fields.as_slice()[1..]) {
+        } else if let Ok(price) = read_price(alloc, opening, rest) {
             let key = key_of(alloc, detail, &price)?;
             prices.push((key, index, price.amount.thousandths()))?;
         }

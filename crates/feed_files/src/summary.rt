@@ -24,7 +24,7 @@ pub(crate) enum Beside {
     Notes,
 }
 
-static WORDS: [&str; 13] = [
+const WORDS: [&str; 13] = [
     "no SupplyDetail of the supplier of --supplier in a FILE with others",
     "products emptied",
     "products left without a Price",
@@ -100,8 +100,8 @@ impl Summary {
 
     /// Counts all that another has counted.
     pub(crate) fn add_all(&mut self, other: &Summary) -> Result<(), AllocError> {
-        for (count, more) in self.counts.iter_mut().zip(other.counts.iter()) {
-            *count = count.saturating_add(*more);
+        for place in 0..self.counts.len() {
+            self.counts[place] = self.counts[place].saturating_add(other.counts[place]);
         }
         for counted in other.reasons.iter() {
             self.count_reason(*counted)?;

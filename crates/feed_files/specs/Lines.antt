@@ -1,14 +1,19 @@
 -- What the lines on standard error say.
 use Rattle.std.specs.Prelude.{ℕ, ◌==◌, ◌++◌, List, if◌then◌else◌}
-use Rattle.std.specs.Prelude.{chars, codes, length, nat_eq, nat_lt}
+use Rattle.std.specs.Prelude.{chars, codes, length, nat_eq, nat_lt, take}
 use Rattle.std.specs.Str.Lossy.{utf8_lossy}
 use Rattle.std.specs.List.{after_first, before_first, position_or_len}
 use Rattle.watched_output.specs.Shown.{shown}
 
+-- the bytes of a text that are looked at: a hundred characters have no more
+abbrev pub front_of : List ℕ → List ℕ
+front_of value = if nat_lt 404 (length value) then take 404 value else value
+
 -- what stands in a feed, or that nothing stands there
 abbrev pub value_text : List ℕ → List ℕ
 value_text value =
-    if nat_eq (length value) 0 then codes "missing" else shown 100 (chars (utf8_lossy value))
+    if nat_eq (length value) 0 then codes "missing"
+    else shown 100 (chars (utf8_lossy (front_of value)))
 
 -- words, with what the feed has in the place of their star
 abbrev pub filled : List ℕ → List ℕ → List ℕ

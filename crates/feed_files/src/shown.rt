@@ -9,6 +9,9 @@ use watched_output::shown_texts::push_shown;
 /// How many characters of a text are shown.
 pub(crate) const SHOWN: usize = 100;
 
+// How many bytes of a text are looked at: those of more characters, of four bytes at most.
+const READ: usize = 404;
+
 /// Adds what stands in a feed, or that nothing stands there.
 pub(crate) fn push_value(line: &mut String, value: &[u8]) -> Result<(), AllocError>
     ensures { OnOk result (string_bytes line.new ≡ string_bytes line.old ++ value_text value.now) }
@@ -16,7 +19,12 @@ pub(crate) fn push_value(line: &mut String, value: &[u8]) -> Result<(), AllocErr
     if value.is_empty() {
         return line.push_str("missing");
     }
-    let text = String::from_utf8_lossy(*line.allocator(), value)?;
+    let front = if value.len() > READ {
+        &value[..READ]
+    } else {
+        value
+    };
+    let text = String::from_utf8_lossy(*line.allocator(), front)?;
     push_shown(line, text.as_str(), SHOWN)
 }
 

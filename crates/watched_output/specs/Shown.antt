@@ -1,7 +1,6 @@
 -- What a line of a terminal shows of a text.
-use Rattle.std.specs.Prelude.{ℕ, Bool, true, false, ◌==◌, ◌++◌, List, [], ◌∷◌, codes, if◌then◌else◌}
-use Rattle.std.specs.Prelude.{encode_utf8_all, flat_map, length, nat_lt, take}
-use Rattle.std.specs.Char.Escape.{escape_default}
+use Rattle.std.specs.Prelude.{ℕ, Bool, true, false, ◌==◌, ◌++◌, List}
+use Rattle.std.specs.Prelude.{codes, encode_utf8, flat_map, if◌then◌else◌, length, nat_le, take}
 use Rattle.ucd_category.specs.GeneralCategory.{general_category}
 use Rattle.ucd_category.specs.declared.GeneralCategory.{GeneralCategory}
 use Rattle.ucd_category.specs.declared.GeneralCategory.TheVariants as category
@@ -21,12 +20,15 @@ stands _ c = true
 abbrev pub is_printable : ℕ → Bool
 is_printable c = stands (general_category c) c
 
--- a character as it is shown
-abbrev pub shown_char : ℕ → List ℕ
-shown_char c = if is_printable c then c ∷ [] else escape_default c
+-- a character as it is shown: U+FFFD in place of one that moves or changes what stands on the line
+abbrev pub shown_char : ℕ → ℕ
+shown_char c = if is_printable c then c else 0xFFFD
+
+abbrev pub shown_chars : List ℕ → List ℕ
+shown_chars cs = flat_map (λ c. encode_utf8 (shown_char c)) cs
 
 -- so many of these characters at most, and two points where there are more
 abbrev pub shown : ℕ → List ℕ → List ℕ
 shown most cs =
-    flat_map (λ c. encode_utf8_all (shown_char c)) (take most cs)
-    ++ (if nat_lt most (length cs) then codes ".." else [])
+    if nat_le (length cs) most then shown_chars cs
+    else shown_chars (take most cs) ++ codes ".."

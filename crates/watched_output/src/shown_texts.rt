@@ -1,9 +1,9 @@
 //! Texts of others, as one line of a terminal shows them.
 
-ghost use Rattle.std.specs.Prelude.{◌≡◌, ◌++◌, OnOk, chars, encode_utf8_all, string_bytes};
-ghost use Rattle.watched_output.specs.Shown.{is_printable, shown, shown_char};
+ghost use Rattle.std.specs.Prelude.{◌≡◌, ◌++◌, IfOk, OnOk, chars, string_bytes};
+ghost use Rattle.watched_output.specs.Shown.{is_printable, shown, shown_char, shown_chars};
 
-use std::alloc::AllocError;
+use std::alloc::{AllocError, Global};
 use ucd_category::GeneralCategory;
 
 // Whether a character stands on a line as it is, and neither moves nor changes what stands there.
@@ -23,33 +23,40 @@ fn is_printable(c: char) -> bool
     }
 }
 
-// Adds a character, or its escape.
-fn push_char(line: &mut String, c: char) -> Result<(), AllocError>
-    ensures { OnOk result
-        (string_bytes line.new ≡ string_bytes line.old ++ encode_utf8_all (shown_char c)) }
+// A character as it is shown.
+fn shown_char(c: char) -> char
+    ensures { result ≡ shown_char c }
 {
-    if is_printable(c) {
-        return line.push(c);
-    }
-    for part in c.escape_default() {
-        line.push(part)?;
+    if is_printable(c) { c } else { '\u{fffd}' }
+}
+
+fn characters_of(alloc: Global, text: &str) -> Result<Vec<char>, AllocError>
+    ensures { IfOk result (λ v. v.items ≡ chars text.now) }
+{
+    text.chars().collect(alloc)
+}
+
+// Adds characters as they are shown.
+fn push_chars(line: &mut String, characters: &[char]) -> Result<(), AllocError>
+    ensures { OnOk result
+        (string_bytes line.new ≡ string_bytes line.old ++ shown_chars characters.now) }
+{
+    for c in characters {
+        line.push(shown_char(*c))?;
     }
     Ok(())
 }
 
-/// Adds a text as it is shown: so many of its characters at most, and in place of each that moves
-/// or changes what stands on the line its escape.
+/// Adds a text as it is shown: so many of its characters at most, and a sign in place of each that
+/// moves or changes what stands on the line.
 pub fn push_shown(line: &mut String, text: &str, most: usize) -> Result<(), AllocError>
     ensures { OnOk result
         (string_bytes line.new ≡ string_bytes line.old ++ shown most (chars text.now)) }
 {
-    let mut count = 0usize;
-    for c in text.chars() {
-        if count == most {
-            return line.push_str("..");
-        }
-        push_char(line, c)?;
-        count += 1;
+    let characters = characters_of(*line.allocator(), text)?;
+    if characters.len() <= most {
+        return push_chars(line, characters.as_slice());
     }
-    Ok(())
+    push_chars(line, &characters.as_slice()[..most])?;
+    line.push_str("..")
 }

@@ -1,5 +1,8 @@
 //! Notes on what is left out of the message of a FILE.
 
+ghost use Rattle.std.specs.Prelude.{◌≡◌, ◌++◌, OnOk, string_bytes};
+ghost use Rattle.feed_files.specs.Lines.{place_text};
+
 use crate::counts::{count_again, count_product, is_of_others};
 use crate::doublets::count_doublets;
 use crate::reasons::{Fate, Told, push_fate, told_of};
@@ -69,7 +72,10 @@ fn name_of_stranger(called: &[u8]) -> &[u8] {
 }
 
 /// Adds the beginning of a line on what stands at a place of a FILE.
-pub(crate) fn push_place(text: &mut String, file: &str, place: Position) -> Result<(), AllocError> {
+pub(crate) fn push_place(text: &mut String, file: &str, place: Position) -> Result<(), AllocError>
+    ensures { OnOk result
+        (string_bytes text.new ≡ string_bytes text.old ++ place_text file.now place) }
+{
     text.push_str(PREFIX)?;
     push_shown(text, file, SHOWN)?;
     write!(text, ":{}:{}: ", place.line, place.column)

@@ -19,6 +19,7 @@ pub(crate) enum File<'a> {
 
 // What a table of a kind has: the array of its items, the keys of an item, also as they are told; and
 // how a line begins, of the whole and of an item.
+#[derive(Clone, Copy)]
 struct Form<'a> {
     array: &'static str,
     keys: &'static [Key],

@@ -181,7 +181,14 @@ fn are_of_several(written: &RecordBuffer) -> bool {
 pub(crate) fn is_of_others(notes: &[Note<'_>]) -> bool
     ensures { result ≡ is_of_others (note_views notes.now) }
 {
-    notes.iter().any(|note| note.reason.kind.is_of_others())
+    let mut rest = notes;
+    while let [note, tail @ ..] = rest {
+        if note.reason.kind.is_of_others() {
+            return true;
+        }
+        rest = tail;
+    }
+    false
 }
 
 /// Counts a Product, of which these records are written, with these notes, where that supplier is

@@ -290,6 +290,7 @@ impl<'a> Notes<'a> {
         }
         Ok(())
     }
+
     /// Counts the FILE, where it was converted.
     pub(crate) fn end(&mut self, read: &Result<Counted, Fault>) {
         if let Ok(told) = read {

@@ -1,3 +1,4 @@
 pub mod Kept
 pub mod Ends
 pub mod Runs
+pub mod Lines

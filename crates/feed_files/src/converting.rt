@@ -31,16 +31,12 @@ pub struct Run<'a> {
     pub folder: Option<&'a str>,
 }
 
-// Where a run tells what it does not convert: standard error, and the summary behind its FILEs.
+// Where a run tells what it does not convert: standard error, and the summary behind its FILEs. Lines
+// that cannot be written are lost: there is nowhere left to say so.
 #[derive(Drop)]
 struct Telling<'a, E> {
     errors: &'a mut E,
     summary: Summary,
-}
-
-// Writes lines. Those that cannot be written are lost: there is nowhere left to say so.
-fn write_lines<E: Write>(text: &str, errors: &mut E) {
-    let _ = errors.write_all(text.as_bytes());
 }
 
 // Says what ended a FILE.
@@ -76,7 +72,7 @@ fn report_refusal<E: Write>(
     let mut line = String::new(alloc);
     match push_refusal(&mut line, known, fault) {
         Ok(()) => {
-            write_lines(line.as_str(), errors);
+            let _ = errors.write_all(line.as_bytes());
             Ended::Refused
         }
         Err(AllocError) => report_fault(alloc, &FileFault::Memory, errors),
@@ -105,23 +101,7 @@ fn report_ended<E: Write>(
     }
 }
 
-// Says what ended the reading of a FILE; where what was read could not be kept, that.
-fn report_stopped<E: Write>(
-    alloc: Global,
-    known: &RefusedFile<'_>,
-    fault: &Fault,
-    kept: &Option<FileFault>,
-    errors: &mut E,
-) -> Ended
-    ensures { IsUnconverted fault.now result }
-{
-    match kept {
-        Some(kept) => report_fault(alloc, kept, errors),
-        None => report_ended(alloc, known, fault, errors),
-    }
-}
-
-// How a FILE ended that was read so.
+// How a FILE ended that was read so; where what was read could not be kept, that is said.
 fn end_of<E: Write>(
     alloc: Global,
     known: &RefusedFile<'_>,
@@ -134,7 +114,10 @@ fn end_of<E: Write>(
 {
     match read {
         Ok(told) => Ended::of_converted(*told),
-        Err(fault) => report_stopped(alloc, known, fault, kept, errors),
+        Err(fault) => match kept {
+            Some(kept) => report_fault(alloc, kept, errors),
+            None => report_ended(alloc, known, fault, errors),
+        },
     }
 }
 
@@ -160,17 +143,10 @@ fn end_of_seen<E: Write>(
     end_of(alloc, &known, &read, &kept, errors)
 }
 
-// Counts a FILE that was converted.
-fn end_notes(notes: &mut Notes<'_>, read: &Result<Counted, Fault>) {
-    if let Ok(told) = read {
-        notes.summary.count_file(*told, notes.has_products);
-    }
-}
-
 // Writes the notes of a FILE that was converted, and counts them. Where memory runs out, the
 // summary counts less.
 fn tell<E: Write>(notes: &Notes<'_>, telling: &mut Telling<'_, E>) {
-    write_lines(notes.all.text.as_str(), telling.errors);
+    let _ = telling.errors.write_all(notes.all.text.as_bytes());
     let _ = telling.summary.add_all(&notes.summary);
 }
 
@@ -202,7 +178,7 @@ fn convert_out<C: Clock, F: NamedFiles, R: Read, W: Write, E: Write>(
         mut notes,
         fault,
     } = target;
-    end_notes(&mut notes, &ended);
+    notes.end(&ended);
     let ended = end_of_seen(alloc, &notes, unread, options, ended, fault, telling.errors);
     if !ended.is_converted() {
         return ended;
@@ -263,7 +239,7 @@ fn convert_into<C: Clock, F: NamedFiles, R: Read, E: Write>(
         mut notes,
         fault,
     } = target;
-    end_notes(&mut notes, &ended);
+    notes.end(&ended);
     let errors = &mut *telling.errors;
     let read = end_of_seen(alloc, &notes, unread, options, ended, fault, errors);
     let made = store.finish();
@@ -295,7 +271,7 @@ fn report_packed<E: Write>(alloc: Global, file: &str, errors: &mut E) -> Ended
     let mut line = String::new(alloc);
     match push_packed(&mut line, file) {
         Ok(()) => {
-            write_lines(line.as_str(), errors);
+            let _ = errors.write_all(line.as_bytes());
             Ended::Packed
         }
         Err(AllocError) => report_fault(alloc, &FileFault::Memory, errors),
@@ -345,7 +321,7 @@ fn convert_file<C: Clock, F: NamedFiles, R: Read, W: Write, E: Write>(
 fn write_summary<E: Write>(alloc: Global, summary: &Summary, errors: &mut E) {
     let mut text = String::new(alloc);
     if let Ok(()) = summary.push_lines(PREFIX, &mut text) {
-        write_lines(text.as_str(), errors);
+        let _ = errors.write_all(text.as_bytes());
     }
 }
 

@@ -1,10 +1,11 @@
 //! What the summary counts of a Product beside its notes.
 
-use crate::doublets::field;
-use crate::reasons::is_emptied;
-use crate::summary::{
-    AGAIN, EMPTIED, OF_OTHERS, OF_SEVERAL, OTHER_DETAILS, PRODUCTS, Summary, UNPRICED, WITH_RIGHTS,
-};
+ghost use Rattle.std.specs.Prelude.{◌≡◌};
+ghost use Rattle.feed_conversion.specs.Tallies.{is_of_others};
+ghost use Rattle.feed_mapping.specs.Notes.{note_views};
+
+use crate::reasons::{Fate, told_of};
+use crate::summary::{Beside, Summary};
 use csv_records::buffer::RecordBuffer;
 use csv_records::record::Record;
 use feed_mapping::{
@@ -33,11 +34,6 @@ const REPEATABLE: [&[u8]; 17] = [
     b":",
 ];
 
-// Most names have other lengths, and their bytes are not looked at.
-fn is_repeatable(name: &[u8]) -> bool {
-    REPEATABLE.iter().any(|repeatable| repeatable.len() == name.len() && *repeatable == name)
-}
-
 // Whether all SupplyDetails of a ProductSupply, which has some, are of others than the supplier that
 // is named: it is as absent.
 fn is_supply_of_others(named: Option<Pair<'_>>, supply: &Elements<'_>) -> bool {
@@ -47,12 +43,12 @@ fn is_supply_of_others(named: Option<Pair<'_>>, supply: &Elements<'_>) -> bool {
 // Whether an element is not looked at: in a Price or a Market a second one is wrong, and has a note;
 // of a deletion supplies are not read; what is of other suppliers is as absent.
 fn is_passed_over(named: Option<Pair<'_>>, element: &Node<'_>, is_deletion: bool) -> bool {
-    let name = element.line.name;
-    name == b"Price".as_slice()
-        || name == b"Market".as_slice()
-        || (name == b"SupplyDetail".as_slice() && is_of_other(named, &element.below))
-        || (name == b"ProductSupply".as_slice()
-            && (is_deletion || is_supply_of_others(named, &element.below)))
+    match element.line.name {
+        b"Price" | b"Market" => true,
+        b"SupplyDetail" => is_of_other(named, &element.below),
+        b"ProductSupply" => is_deletion || is_supply_of_others(named, &element.below),
+        _ => false,
+    }
 }
 
 // Whether one of the elements is the first of its name.
@@ -84,7 +80,7 @@ pub(crate) fn count_again(
     let mut rest = elements.copy();
     while let Some(node) = rest.first() {
         if !is_passed_over(named, &node, is_deletion) {
-            let repeats = is_repeatable(node.line.name);
+            let repeats = REPEATABLE.iter().any(|name| *name == node.line.name);
             count = count.saturating_add(u64::from(!repeats && comes_again(&node)));
             if repeats || is_first(node.line, elements) {
                 let below = count_again(named, &node.below, is_deletion);
@@ -103,15 +99,8 @@ const PRICES: [&[u8]; 3] = [b"ProductSupply", b"SupplyDetail", b"Price"];
 
 const RIGHTS: [&[u8]; 2] = [b"PublishingDetail", b"SalesRights"];
 
-// Whether an element counts: a SupplyDetail of the supplier that is named, a Price with an amount,
-// and any other.
-fn is_counted(named: Option<Pair<'_>>, element: &Composite<'_>) -> bool {
-    let name = element.line.name;
-    (name != b"SupplyDetail".as_slice() || !is_of_other(named, &element.below))
-        && (name != b"Price".as_slice() || text_in(b"PriceAmount", &element.below).is_some())
-}
-
-// How many elements of that path count.
+// How many elements of that path count: a SupplyDetail of the supplier that is named, a Price with
+// an amount, and any other.
 fn count_at(named: Option<Pair<'_>>, path: &[&[u8]], elements: &Elements<'_>) -> u64 {
     let Some((name, deeper)) = path.split_first() else {
         return 1;
@@ -119,7 +108,12 @@ fn count_at(named: Option<Pair<'_>>, path: &[&[u8]], elements: &Elements<'_>) ->
     let mut count = 0u64;
     let mut rest = elements.copy();
     while let Some((element, behind)) = next_composite(name, &rest) {
-        if is_counted(named, &element) {
+        let is_counted = match *name {
+            b"SupplyDetail" => !is_of_other(named, &element.below),
+            b"Price" => text_in(b"PriceAmount", &element.below).is_some(),
+            _ => true,
+        };
+        if is_counted {
             count = count.saturating_add(count_at(named, deeper, &element.below));
         }
         rest = behind;
@@ -130,29 +124,22 @@ fn count_at(named: Option<Pair<'_>>, path: &[&[u8]], elements: &Elements<'_>) ->
 // Whether one of the records has this name.
 fn has_record(name: &str, written: &RecordBuffer) -> bool {
     for index in 0..written.len() {
-        if let Some((first, _)) = written.record(index).split_first() {
-            if first == name {
-                return true;
-            }
+        if written.record(index).get(0) == Some(name) {
+            return true;
         }
     }
     false
 }
 
-// Whether a ProductSupply has no Market, and is written, as these notes have it.
-fn is_of_world(named: Option<Pair<'_>>, supply: &Composite<'_>, notes: &[Note<'_>]) -> bool {
-    first_composite(b"Market", &supply.below).is_none()
-        && !is_supply_of_others(named, &supply.below)
-        && !notes
-            .iter()
-            .any(|note| note.line.place == supply.line.place)
-}
-
-// Whether one of the ProductSupplys of a Product is such.
+// Whether a ProductSupply of a Product has no Market, and is written, as these notes have it.
 fn has_world_supply(named: Option<Pair<'_>>, product: &Elements<'_>, notes: &[Note<'_>]) -> bool {
     let mut rest = product.copy();
     while let Some((supply, behind)) = next_composite(b"ProductSupply", &rest) {
-        if is_of_world(named, &supply, notes) {
+        let is_left_out = is_supply_of_others(named, &supply.below)
+            || notes
+                .iter()
+                .any(|note| note.line.place == supply.line.place);
+        if !is_left_out && first_composite(b"Market", &supply.below).is_none() {
             return true;
         }
         rest = behind;
@@ -160,12 +147,14 @@ fn has_world_supply(named: Option<Pair<'_>>, product: &Elements<'_>, notes: &[No
     false
 }
 
-// Whether the records of two SupplyDetails are of different suppliers, by type and value, or by name
-// where neither has them.
-fn are_of_two(one: &Record<'_>, other: &Record<'_>) -> bool {
-    let is_same = field(one, 2) == field(other, 2) && field(one, 3) == field(other, 3);
-    let is_named = field(one, 2).is_empty() && field(one, 3).is_empty();
-    !is_same || (is_named && field(one, 4) != field(other, 4))
+// The supplier of a record of a SupplyDetail, by type and value, or by name where it has neither.
+fn supplier_of<'a>(record: &Record<'a>) -> [&'a str; 3] {
+    let (id_type, id_value) = (record.get(2).unwrap_or(""), record.get(3).unwrap_or(""));
+    if id_type.is_empty() && id_value.is_empty() {
+        ["", "", record.get(4).unwrap_or("")]
+    } else {
+        [id_type, id_value, ""]
+    }
 }
 
 // Whether the records of a Product are of SupplyDetails of different suppliers.
@@ -173,11 +162,12 @@ fn are_of_several(written: &RecordBuffer) -> bool {
     let mut first = None;
     for index in 0..written.len() {
         let record = written.record(index);
-        if field(&record, 0) == "SupplyDetail" {
-            match &first {
-                None => first = Some(record),
-                Some(first) => {
-                    if are_of_two(first, &record) {
+        if record.get(0) == Some("SupplyDetail") {
+            let supplier = supplier_of(&record);
+            match first {
+                None => first = Some(supplier),
+                Some(other) => {
+                    if other != supplier {
                         return true;
                     }
                 }
@@ -188,8 +178,17 @@ fn are_of_several(written: &RecordBuffer) -> bool {
 }
 
 /// Whether a note says that a Product is of other suppliers alone.
-pub(crate) fn is_of_others(notes: &[Note<'_>]) -> bool {
-    notes.iter().any(|note| note.reason.kind.is_of_others())
+pub(crate) fn is_of_others(notes: &[Note<'_>]) -> bool
+    ensures { result ≡ is_of_others (note_views notes.now) }
+{
+    let mut rest = notes;
+    while let [note, tail @ ..] = rest {
+        if note.reason.kind.is_of_others() {
+            return true;
+        }
+        rest = tail;
+    }
+    false
 }
 
 /// Counts a Product, of which these records are written, with these notes, where that supplier is
@@ -204,25 +203,28 @@ pub(crate) fn count_product(
     let below = &product.below;
     // Its supplies are not looked at then.
     let is_deletion = text_or_empty(b"NotificationType", below) == b"05".as_slice();
-    let has_emptied = notes.iter().any(|note| is_emptied(note.reason.kind));
-    let is_emptied = written.len() != 0 && has_emptied;
+    let is_written = written.len() != 0;
+    let is_emptied = is_written
+        && notes
+            .iter()
+            .any(|note| told_of(note.reason.kind).fate == Fate::Emptied);
     let is_unpriced = !is_deletion
         && !has_record("Price", written)
         && count_at(named, &PRICES, below) != 0;
     let has_rights = has_record("ProductSupply", written)
         && count_at(None, &RIGHTS, below) != 0
         && has_world_supply(named, below, notes);
-    summary.count(PRODUCTS, 1);
-    summary.count(EMPTIED, u64::from(is_emptied));
-    summary.count(UNPRICED, u64::from(is_unpriced));
-    summary.count(WITH_RIGHTS, u64::from(has_rights));
-    summary.count(OF_OTHERS, u64::from(is_of_others(notes)));
+    summary.count(Beside::Products, 1);
+    summary.count(Beside::Emptied, u64::from(is_emptied));
+    summary.count(Beside::Unpriced, u64::from(is_unpriced));
+    summary.count(Beside::WithRights, u64::from(has_rights));
+    summary.count(Beside::OfOthers, u64::from(is_of_others(notes)));
     let is_of_several = named.is_none() && are_of_several(written);
-    summary.count(OF_SEVERAL, u64::from(is_of_several));
-    summary.count(AGAIN, count_again(named, below, is_deletion));
-    if written.len() != 0 && !is_emptied && !is_deletion {
+    summary.count(Beside::OfSeveral, u64::from(is_of_several));
+    summary.count(Beside::Again, count_again(named, below, is_deletion));
+    if is_written && !is_emptied && !is_deletion {
         let own = count_at(named, &DETAILS, below);
         let others = count_at(None, &DETAILS, below).saturating_sub(own);
-        summary.count(OTHER_DETAILS, others);
+        summary.count(Beside::OtherDetails, others);
     }
 }

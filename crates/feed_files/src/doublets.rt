@@ -2,83 +2,42 @@
 //! another amount: the desk takes the least of them.
 
 use csv_records::buffer::RecordBuffer;
-use csv_records::record::Record;
+use onix_records::parts::Price;
+use onix_records::price::read_price;
 use onix_records::row::Opening;
-use onix_terms::amount::Amount;
-use onix_terms::quantity::Quantity;
+use onix_terms::countries::countries_text;
+use onix_terms::territory::Territory;
+use onix_terms::text::Text;
 use std::alloc::{AllocError, Global};
 
-// A Price as it is written: in what it is alike others, where it stands, and its amount.
-type Written = (String, usize, u64);
-
-/// A field of a record, empty where it has none.
-pub(crate) fn field<'a>(record: &Record<'a>, index: usize) -> &'a str {
-    record.get(index).unwrap_or("")
-}
-
-// The words of a list of countries, but for those of another, in order and each once.
-fn countries<'a>(alloc: Global, list: &'a str, but: &str) -> Result<Vec<&'a str>, AllocError> {
-    let mut found = Vec::new(alloc);
-    for country in list.split(' ') {
-        if !country.is_empty() && !but.split(' ').any(|other| other == country) {
-            found.push(country)?;
+// The countries of a territory, or those that it excludes of the world.
+fn countries_of(alloc: Global, territory: &Territory) -> Result<Text, AllocError> {
+    if territory.world {
+        return countries_text(alloc, territory.excluded.as_slice());
+    }
+    let mut left = Vec::new(alloc);
+    for country in territory.included.as_slice() {
+        if territory.contains(*country) {
+            left.push(*country)?;
         }
     }
-    found.sort_unstable();
-    found.dedup();
-    Ok(found)
+    countries_text(alloc, left.as_slice())
 }
 
-// Adds where a Price holds: in countries, or in the world without some.
-fn push_area(alloc: Global, key: &mut String, record: &Record<'_>) -> Result<(), AllocError> {
-    let (included, regions, excluded) = (field(record, 4), field(record, 5), field(record, 6));
-    let is_world = included.is_empty() || regions.contains("WORLD");
-    let listed = if is_world {
-        countries(alloc, excluded, "")?
-    } else {
-        countries(alloc, included, excluded)?
-    };
-    key.push_str(if is_world { "WORLD" } else { "" })?;
-    for country in listed.iter() {
-        write!(key, " {country}")?;
-    }
-    Ok(())
-}
-
-// In what a Price behind the record of a SupplyDetail at a place is alike others: that, type,
-// currency, minimum, days, and where it holds.
-fn key_of(
-    alloc: Global,
-    opening: &Opening,
-    detail: usize,
-    record: &Record<'_>,
-) -> Result<String, AllocError> {
-    let header = &opening.header;
-    let price_type = match &header.default_type {
-        Some(code) if field(record, 1).is_empty() => code.as_str(),
-        _ => field(record, 1),
-    };
-    let currency = match &header.default_currency {
-        Some(code) if field(record, 3).is_empty() => code.as_str(),
-        _ => field(record, 3),
-    };
-    let minimum = match Quantity::read(field(record, 9)) {
-        Some(quantity) => quantity.value(),
-        None => 1,
-    };
-    let (from, until) = (field(record, 7), field(record, 8));
-    let mut key = String::new(alloc);
-    write!(
-        key,
-        "{detail},{price_type},{currency},{minimum},{from},{until},"
-    )?;
-    push_area(alloc, &mut key, record)?;
-    Ok(key)
+// In what a Price behind the record of a SupplyDetail at a place is alike others.
+fn key_of(alloc: Global, detail: usize, price: &Price) -> Result<String, AllocError> {
+    let countries = countries_of(alloc, &price.territory)?;
+    let (price_type, currency) = (price.price_type.as_str(), price.currency.as_str());
+    let (copies, from, until) = (price.minimum.value(), price.from, price.until);
+    let (is_world, countries) = (price.territory.world, countries.as_str());
+    format!(in alloc;
+        "{detail},{price_type},{currency},{copies},{from:?},{until:?},{is_world},{countries}"
+    )
 }
 
 // Of Prices in order of what they are alike in, and of their places, how many stand behind one that
 // is alike, with another amount.
-fn count_sorted(prices: &[Written]) -> u64 {
+fn count_sorted(prices: &[(String, usize, u64)]) -> u64 {
     let mut count = 0u64;
     let mut first: Option<(&str, u64)> = None;
     let mut is_several = false;
@@ -108,15 +67,19 @@ pub(crate) fn count_doublets(
     if written.len() < 5 {
         return Ok(0);
     }
-    let mut prices: Vec<Written> = Vec::new(alloc);
+    let mut prices = Vec::new(alloc);
+    let mut fields = Vec::new(alloc);
     let mut detail = 0;
     for index in 0..written.len() {
-        let record = written.record(index);
-        if field(&record, 0) != "Price" {
+        written.record(index).fill(&mut fields)?;
+        let Some((name, rest)) = fields.as_slice().split_first() else {
+            continue;
+        };
+        if *name != "Price" {
             detail = index;
-        } else if let Some(amount) = Amount::read(field(&record, 2)) {
-            let key = key_of(alloc, opening, detail, &record)?;
-            prices.push((key, index, amount.thousandths()))?;
+        } else if let Ok(price) = read_price(alloc, opening, rest) {
+            let key = key_of(alloc, detail, &price)?;
+            prices.push((key, index, price.amount.thousandths()))?;
         }
     }
     prices.sort()?;

@@ -3,30 +3,20 @@
 use crate::notes::PREFIX;
 use crate::shown::SHOWN;
 use program_files::FileFault;
-use std::alloc::{AllocError, Global};
+use std::alloc::Global;
 use std::io::Write;
 use watched_output::shown_texts::push_shown;
 
-// The line of a fault.
-fn line_of(alloc: Global, fault: &FileFault) -> Result<String, AllocError> {
+/// Writes the line of a fault. What cannot be written of it is lost: there is nowhere left to say so.
+pub fn write_fault<E: Write>(alloc: Global, fault: &FileFault, errors: &mut E) {
     match fault {
         FileFault::File { name, why } => {
-            let mut line = String::new(alloc);
-            line.push_str(PREFIX)?;
-            push_shown(&mut line, name.as_str(), SHOWN)?;
-            write!(line, ": {why}\n")?;
-            Ok(line)
+            let mut shown = String::new(alloc);
+            let _ = push_shown(&mut shown, name.as_str(), SHOWN);
+            let _ = write!(errors, "{PREFIX}{shown}: {why}\n");
         }
-        FileFault::Memory => Err(AllocError),
+        FileFault::Memory => {
+            let _ = write!(errors, "{PREFIX}memory\n");
+        }
     }
-}
-
-/// Writes the line of a fault. One that cannot be written is lost: there is nowhere left to say so.
-pub fn write_fault<E: Write>(alloc: Global, fault: &FileFault, errors: &mut E) {
-    let line = line_of(alloc, fault);
-    let text = match &line {
-        Ok(line) => line.as_str(),
-        Err(_) => "onixdesk: memory\n",
-    };
-    let _ = errors.write_all(text.as_bytes());
 }

@@ -1,16 +1,19 @@
 //! Notes on what is left out of the message of a FILE.
 
+ghost use Rattle.std.specs.Prelude.{◌≡◌, ◌++◌, OnOk, string_bytes};
+ghost use Rattle.feed_files.specs.Lines.{place_text};
+
 use crate::counts::{count_again, count_product, is_of_others};
 use crate::doublets::count_doublets;
-use crate::reasons::{is_counted_alone, is_of_discount, is_of_product, push_fate, words_of};
-use crate::shown::{SHOWN, name_of_stranger, push_reason, push_value};
-use crate::summary::{AGAIN, DOUBLETS, Summary};
+use crate::reasons::{Fate, Told, push_fate, told_of};
+use crate::shown::{SHOWN, push_value, push_words};
+use crate::summary::{Beside, Summary};
 use csv_records::buffer::RecordBuffer;
 use csv_records::fields::FieldBuffer;
-use feed_conversion::Options;
+use feed_conversion::{Counted, Fault, Options};
 use feed_mapping::{
-    Choices, Composite, Note, ReasonKind, SupplyChoices, Wrong, add_product, first_reason,
-    malformed_field, next_composite, read_heading, text_or_empty,
+    Composite, Note, ReasonKind, SupplyChoices, Wrong, add_product, first_reason, malformed_field,
+    next_composite, read_heading, text_or_empty,
 };
 use feed_outline::first_called;
 use feed_xml::Position;
@@ -25,13 +28,12 @@ pub(crate) const PREFIX: &str = "onixdesk: ";
 // Those behind them are only counted.
 const MOST_LINES: u32 = 1_000;
 
-/// The FILE that notes are on, what the caller chose, and whether there are terms of the shop.
+/// The FILE that notes are on, and how it is read.
 #[derive(Clone, Copy)]
 pub(crate) struct Scope<'a> {
     alloc: Global,
     pub(crate) file: &'a str,
-    choices: &'a Choices<'a>,
-    has_terms: bool,
+    options: &'a Options<'a>,
 }
 
 /// Lines of notes on a FILE: how many there are, but for those on Products, and how many of those.
@@ -61,8 +63,19 @@ pub struct Notes<'a> {
     opening: Option<Opening>,
 }
 
+// The name of a stranger, of how it is called: its name, and the addresses of namespaces.
+fn name_of_stranger(called: &[u8]) -> &[u8] {
+    match called.iter().position(|byte| *byte == b'\n') {
+        Some(end) => called.get(..end).unwrap_or(called),
+        None => called,
+    }
+}
+
 /// Adds the beginning of a line on what stands at a place of a FILE.
-pub(crate) fn push_place(text: &mut String, file: &str, place: Position) -> Result<(), AllocError> {
+pub(crate) fn push_place(text: &mut String, file: &str, place: Position) -> Result<(), AllocError>
+    ensures { OnOk result
+        (string_bytes text.new ≡ string_bytes text.old ++ place_text file.now place) }
+{
     text.push_str(PREFIX)?;
     push_shown(text, file, SHOWN)?;
     write!(text, ":{}:{}: ", place.line, place.column)
@@ -75,7 +88,7 @@ fn push_first_reason(
     product: &Composite<'_>,
     note: Note<'_>,
 ) -> Result<(), AllocError> {
-    let (choices, kind) = (scope.choices, note.reason.kind);
+    let (choices, kind) = (&scope.options.choices, note.reason.kind);
     let mut rest = product.below.copy();
     while let Some((supply, behind)) = next_composite(b"ProductSupply", &rest) {
         if supply.line.place == note.line.place {
@@ -83,7 +96,7 @@ fn push_first_reason(
             let first = first_reason(scope.alloc, supplier, id_type, kind, &supply.below)?;
             if let Some(first) = first {
                 text.push_str(", the first for: ")?;
-                push_reason(text, words_of(first.kind), first.text)?;
+                push_words(text, told_of(first.kind).words, first.text)?;
             }
         }
         rest = behind;
@@ -97,62 +110,57 @@ fn push_line<'a>(
     scope: &Scope<'_>,
     product: &Composite<'a>,
     note: Note<'a>,
+    told: &Told,
 ) -> Result<(), AllocError> {
     push_place(text, scope.file, note.line.place)?;
     push_value(text, text_or_empty(b"RecordReference", &product.below))?;
     text.push_str(": ")?;
-    let kind = note.reason.kind;
-    let value = if kind == ReasonKind::Wrong(Wrong::OtherNamespace) {
-        name_of_stranger(first_called(&product.below))
-    } else {
-        note.reason.text
+    let value = match note.reason.kind {
+        ReasonKind::Wrong(Wrong::OtherNamespace) => name_of_stranger(first_called(&product.below)),
+        _ => note.reason.text,
     };
-    push_fate(text, note.line.name, kind, value)?;
+    push_fate(text, note.line.name, told, value)?;
     push_first_reason(text, scope, product, note)?;
     text.push_str("\n")
 }
 
 impl Lines {
-    fn new(alloc: Global) -> Lines {
-        Lines {
-            text: String::new(alloc),
-            others: 0,
-            of_products: 0,
-        }
-    }
-
     // Adds the line of a note on a product, where there is room for one of its kind.
     fn add(
         &mut self,
         scope: &Scope<'_>,
         product: &Composite<'_>,
         note: Note<'_>,
+        told: &Told,
     ) -> Result<(), AllocError> {
-        let count = if is_of_product(note.reason.kind) {
-            &mut self.of_products
-        } else {
-            &mut self.others
+        let count = match told.fate {
+            Fate::Lost | Fate::Emptied => &mut self.of_products,
+            _ => &mut self.others,
         };
         if *count == MOST_LINES {
             return Ok(());
         }
         *count = count.saturating_add(1);
-        push_line(&mut self.text, scope, product, note)
+        push_line(&mut self.text, scope, product, note, told)
     }
 }
 
 impl<'a> Notes<'a> {
     /// None yet, of a FILE that is read so.
     pub(crate) fn new(alloc: Global, file: &'a str, options: &'a Options<'a>) -> Notes<'a> {
+        let none = |text| Lines {
+            text,
+            others: 0,
+            of_products: 0,
+        };
         Notes {
             scope: Scope {
                 alloc,
                 file,
-                choices: &options.choices,
-                has_terms: options.terms.is_some(),
+                options,
             },
-            all: Lines::new(alloc),
-            of_wrong: Lines::new(alloc),
+            all: none(String::new(alloc)),
+            of_wrong: none(String::new(alloc)),
             summary: Summary::new(alloc),
             has_products: false,
             header: String::new(alloc),
@@ -180,12 +188,12 @@ impl<'a> Notes<'a> {
             return Ok(0);
         };
         let count = count_doublets(alloc, opening, written)?;
-        if count == 0 || !self.scope.has_terms {
+        if count == 0 || self.scope.options.terms.is_none() {
             return Ok(count);
         }
         let choices = SupplyChoices {
-            supplier: self.scope.choices.supplier,
-            id_type: self.scope.choices.id_type,
+            supplier: self.scope.options.choices.supplier,
+            id_type: self.scope.options.choices.id_type,
             terms: None,
         };
         let mut fields = FieldBuffer::new(alloc);
@@ -208,17 +216,19 @@ impl<'a> Notes<'a> {
         if self.opening.is_none() {
             let alloc = self.scope.alloc;
             let mut fields = FieldBuffer::new(alloc);
-            let heading = read_heading(alloc, self.scope.choices, &header.below, &mut fields);
-            self.opening = match heading {
-                Ok(heading) => Some(heading.opening),
-                Err(_) => None,
-            };
+            let heading = read_heading(
+                alloc,
+                &self.scope.options.choices,
+                &header.below,
+                &mut fields,
+            );
+            self.opening = heading.ok().map(|heading| heading.opening);
         }
         self.summary
-            .count(AGAIN, count_again(None, &header.below, false));
+            .count(Beside::Again, count_again(None, &header.below, false));
         self.notice_stranger(first_called(&header.below));
         if self.header.is_empty() {
-            if let Some(found) = malformed_field(self.scope.choices, &header.below) {
+            if let Some(found) = malformed_field(&self.scope.options.choices, &header.below) {
                 let _ = write!(self.header, "{:?} ", found.field);
                 let _ = push_value(&mut self.header, found.text);
             }
@@ -243,18 +253,20 @@ impl<'a> Notes<'a> {
         note: Note<'_>,
         is_wrong: bool,
     ) -> Result<(), AllocError> {
-        let kind = note.reason.kind;
-        // With terms discounts are read. A product of other suppliers alone is counted as one.
-        if (self.scope.has_terms && is_of_discount(kind)) || kind.is_of_others() {
+        let told = told_of(note.reason.kind);
+        let is_read = told.fate == Fate::Discount && self.scope.options.terms.is_some();
+        // A product of other suppliers alone is counted as one.
+        if is_read || note.reason.kind.is_of_others() {
             return Ok(());
         }
-        self.summary.add(note)?;
-        if is_counted_alone(kind) {
+        self.summary.add(note, told)?;
+        if told.fate == Fate::Counted || told.fate == Fate::Discount {
             return Ok(());
         }
-        self.all.add(&self.scope, product, note)?;
+        self.summary.count(Beside::Notes, 1);
+        self.all.add(&self.scope, product, note, told)?;
         if is_wrong {
-            self.of_wrong.add(&self.scope, product, note)?;
+            self.of_wrong.add(&self.scope, product, note, told)?;
         }
         Ok(())
     }
@@ -266,16 +278,27 @@ impl<'a> Notes<'a> {
         written: &RecordBuffer,
         notes: &[Note<'_>],
     ) -> Result<(), AllocError> {
-        let named = self.scope.choices.supplier;
+        let named = self.scope.options.choices.supplier;
         self.has_products = true;
         count_product(&mut self.summary, named, product, written, notes);
         let doublets = self.count_doublets(product, written)?;
-        self.summary.count(DOUBLETS, doublets);
+        self.summary.count(Beside::Doublets, doublets);
         let has_wrong = notes.iter().any(|note| note.reason.kind.is_wrong());
         let is_wrong = has_wrong && !is_of_others(notes);
         for note in notes.iter() {
             self.add_note(product, *note, is_wrong)?;
         }
         Ok(())
+    }
+
+    /// Counts the FILE, where it was converted.
+    pub(crate) fn end(&mut self, read: &Result<Counted, Fault>) {
+        if let Ok(told) = read {
+            self.summary.count(Beside::Wrong, u64::from(told.wrong));
+            self.summary
+                .count(Beside::NoProduct, u64::from(!self.has_products));
+            self.summary
+                .count(Beside::NoSupplier, u64::from(told.lacks_supplier));
+        }
     }
 }

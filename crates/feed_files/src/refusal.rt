@@ -2,10 +2,10 @@
 
 use crate::notes::{Notes, push_place};
 use crate::reasons::STRANGER;
-use crate::shown::{push_reason, push_value};
+use crate::shown::push_words;
 use feed_conversion::{Fault, Options, Refusal};
 use feed_mapping::HeaderRefusal;
-use feed_outline::{RefusalHints, StuckAt, Wrong};
+use feed_outline::{RefusalHints, Wrong};
 use feed_xml::Position;
 use program_files::FileFault;
 use std::alloc::AllocError;
@@ -25,22 +25,78 @@ pub struct RefusedFile<'a> {
     pub unread: &'a Option<FileFault>,
 }
 
-// Of a file that is no document. Where nothing else is told it is malformed by its end alone.
-fn words_of_document(fault: &feed_xml::Fault) -> &'static str {
-    match fault {
-        feed_xml::Fault::NotText => {
-            "what is no text of XML in its encoding, as of a packed file or of another encoding"
+const NOTHING: &[u8] = b"";
+
+// Words, and what the feed has in the place of their star.
+type Words<'a> = (&'static str, &'a [u8]);
+
+// Why a file is no document. Where nothing else is told it is malformed by its end alone.
+fn of_document<'a>(fault: &'a feed_xml::Fault, told: &'a RefusalHints) -> Words<'a> {
+    match (fault, &told.stuck) {
+        (feed_xml::Fault::UnknownEncoding(name), _) => match name.as_slice() {
+            b"UTF-16" => ("encoding *; iconv -f UTF-16 -t UTF-8 recodes it", b"UTF-16"),
+            name => ("encoding * is not read", name),
+        },
+        (feed_xml::Fault::Malformed, Some(at)) => {
+            ("no well-formed XML at *", at.begins.as_slice())
         }
-        feed_xml::Fault::TooDeep => "more than 1,000 elements within one another",
-        feed_xml::Fault::TooLong => "a tag, name or comment of more than 4,194,304 bytes",
-        feed_xml::Fault::LargeTag => "a tag with more than 64 attributes, or 65,536 bytes of them",
-        _ => "the file ends too early",
+        (feed_xml::Fault::NotText, _) => (
+            "what is no text of XML in its encoding, as of a packed file or of another encoding",
+            NOTHING,
+        ),
+        (feed_xml::Fault::TooDeep, _) => ("more than 1,000 elements within one another", NOTHING),
+        (feed_xml::Fault::TooLong, _) => {
+            (
+                "a tag, name or comment of more than 4,194,304 bytes",
+                NOTHING,
+            )
+        }
+        (feed_xml::Fault::LargeTag, _) => {
+            (
+                "a tag with more than 64 attributes, or 65,536 bytes of them",
+                NOTHING,
+            )
+        }
+        _ => ("the file ends too early", NOTHING),
     }
 }
 
-// Of a Header for which a message is refused. In the place of `..` stands its MessageNumber, or the
-// field that the desk would not take.
-fn words_of_header(refusal: HeaderRefusal) -> &'static str {
+// Why a feed is not read.
+fn of_unread<'a>(fault: &'a feed_outline::Fault, told: &'a RefusalHints) -> Words<'a> {
+    match fault {
+        feed_outline::Fault::Document(fault) => of_document(fault, told),
+        feed_outline::Fault::Message(Wrong::Root(name)) => {
+            (
+                "root * is neither ONIXMessage nor ONIXmessage",
+                name.as_slice(),
+            )
+        }
+        feed_outline::Fault::Message(Wrong::Release(release, _)) => {
+            let release = match release {
+                Some(release) => release.as_slice(),
+                None => NOTHING,
+            };
+            ("release *, not 3.0 or 3.1", release)
+        }
+        feed_outline::Fault::Reference => {
+            let name = match &told.reference {
+                Some(name) => name.as_slice(),
+                None => NOTHING,
+            };
+            ("&*; stands for nothing", name)
+        }
+        feed_outline::Fault::TooLarge => {
+            (
+                "a Header or a Product of more than 4,194,304 bytes",
+                NOTHING,
+            )
+        }
+    }
+}
+
+// Why a message is refused for its Header, with its MessageNumber or the field that the desk would
+// not take.
+fn of_header(refusal: HeaderRefusal) -> &'static str {
     match refusal {
         HeaderRefusal::NoSender => "no sender identifier; --sender TYPE,VALUE gives one",
         HeaderRefusal::SeveralAddressees => {
@@ -48,132 +104,55 @@ fn words_of_header(refusal: HeaderRefusal) -> &'static str {
         }
         HeaderRefusal::NoSuchAddressee => "none of several addressees is that of --addressee",
         HeaderRefusal::NoNumber => "no MessageNumber; --number N gives one",
-        HeaderRefusal::WrongNumber => "MessageNumber .. is none; --number N gives one",
-        HeaderRefusal::NumberTooGreat => "MessageNumber .. and --number-offset exceed 999999999",
+        HeaderRefusal::WrongNumber => "MessageNumber * is none; --number N gives one",
+        HeaderRefusal::NumberTooGreat => "MessageNumber * and --number-offset exceed 999999999",
         HeaderRefusal::LastNumberTooGreat => "the number of its last part exceeds 999999999",
-        HeaderRefusal::Malformed => "a Header that the desk would call malformed: ..",
+        HeaderRefusal::Malformed => "a Header that the desk would call malformed: *",
     }
 }
 
-// Adds what of a document is malformed: what stands there, and in which element.
-fn push_stuck(line: &mut String, at: &StuckAt) -> Result<(), AllocError> {
-    push_reason(line, "no well-formed XML at ..", at.begins.as_slice())?;
-    let Some((name, place)) = &at.open else {
-        return Ok(());
-    };
-    push_reason(line, " within <..>", name.as_slice())?;
-    write!(line, ", which begins at {}:{}", place.line, place.column)
-}
-
-// Adds why a file is no document.
-fn push_unread(
-    line: &mut String,
-    fault: &feed_xml::Fault,
-    told: &RefusalHints,
-) -> Result<(), AllocError> {
-    match (fault, &told.stuck) {
-        (feed_xml::Fault::UnknownEncoding(name), _) => {
-            let is_utf16 = name.as_slice() == b"UTF-16".as_slice();
-            let recoded = "encoding ..; iconv -f UTF-16 -t UTF-8 recodes it";
-            let words = if is_utf16 {
-                recoded
-            } else {
-                "encoding .. is not read"
-            };
-            push_reason(line, words, name.as_slice())
-        }
-        (feed_xml::Fault::Malformed, Some(at)) => push_stuck(line, at),
-        _ => line.push_str(words_of_document(fault)),
-    }
-}
-
-// Adds why a feed is not read.
-fn push_stopped(
-    line: &mut String,
-    fault: &feed_outline::Fault,
-    told: &RefusalHints,
-) -> Result<(), AllocError> {
-    match fault {
-        feed_outline::Fault::Document(fault) => push_unread(line, fault, told),
-        feed_outline::Fault::Message(Wrong::Root(name)) => push_reason(
-            line,
-            "root .. is neither ONIXMessage nor ONIXmessage",
-            name.as_slice(),
-        ),
-        feed_outline::Fault::Message(Wrong::Release(release, _)) => {
-            let value = match release {
-                Some(release) => release.as_slice(),
-                None => b"",
-            };
-            push_reason(line, "release .., not 3.0 or 3.1", value)
-        }
-        feed_outline::Fault::Reference => {
-            let value = match &told.reference {
-                Some(body) => body.as_slice(),
-                None => b"",
-            };
-            push_reason(line, "&..; stands for nothing", value)
-        }
-        feed_outline::Fault::TooLarge => {
-            line.push_str("a Header or a Product of more than 4,194,304 bytes")
-        }
-    }
-}
-
-// Where what a message is refused for stands.
-fn place_of(refusal: &Refusal) -> Position {
+// Why a message is refused, and where what it is refused for stands. Of wrong products and of parts
+// their numbers go before.
+fn of_refused<'a>(refusal: &'a Refusal, notes: &'a Notes<'_>) -> (Position, Words<'a>) {
     match refusal {
-        Refusal::NoHeader(Some(place))
-        | Refusal::Header(_, _, place)
-        | Refusal::SecondHeader(place)
-        | Refusal::OtherNamespace(place)
-        | Refusal::Wrong(_, _, _, place)
-        | Refusal::Parts(_, place) => *place,
-        Refusal::NoHeader(None) => Position::first(),
+        Refusal::NoHeader(place) => {
+            let place = match place {
+                Some(place) => *place,
+                None => Position::first(),
+            };
+            (place, ("no Header before the first Product", NOTHING))
+        }
+        Refusal::Header(refusal, number, place) => {
+            let value = match refusal {
+                HeaderRefusal::Malformed => notes.header.as_bytes(),
+                _ => number.as_slice(),
+            };
+            (*place, (of_header(*refusal), value))
+        }
+        Refusal::SecondHeader(place) => (*place, ("a second Header", NOTHING)),
+        Refusal::OtherNamespace(place) => (*place, (STRANGER, notes.stranger.as_bytes())),
+        Refusal::Wrong(_, _, reference, place) => {
+            let words = " products wrong; --wrong all lets them through; the first: *";
+            (*place, (words, reference.as_slice()))
+        }
+        Refusal::Parts(_, place) => (*place, (AGREED, NOTHING)),
     }
 }
 
-// Adds why a message is refused.
-fn push_refused(
+// Adds the numbers of a refusal that has such.
+fn push_numbers(
     line: &mut String,
     refusal: &Refusal,
-    known: &RefusedFile<'_>,
+    options: &Options<'_>,
 ) -> Result<(), AllocError> {
     match refusal {
-        Refusal::NoHeader(_) => line.push_str("no Header before the first Product"),
-        Refusal::Header(HeaderRefusal::Malformed, _, _) => push_reason(
-            line,
-            words_of_header(HeaderRefusal::Malformed),
-            known.notes.header.as_bytes(),
-        ),
-        Refusal::Header(refusal, number, _) => {
-            push_reason(line, words_of_header(*refusal), number.as_slice())
-        }
-        Refusal::SecondHeader(_) => line.push_str("a second Header"),
-        Refusal::OtherNamespace(_) => {
-            push_reason(line, STRANGER, known.notes.stranger.as_bytes())
-        }
-        Refusal::Wrong(wrong, products, reference, _) => {
-            write!(
-                line,
-                "{wrong} of {products} products wrong; --wrong all lets them through; the first: "
-            )?;
-            push_value(line, reference.as_slice())
-        }
+        Refusal::Wrong(wrong, products, _, _) => write!(line, "{wrong} of {products}"),
         Refusal::Parts(count, _) => {
-            let parts = known.options.choices.parts;
-            write!(
-                line,
-                "the message needs {count} parts, not {parts}; {AGREED}"
-            )
+            let parts = options.choices.parts;
+            write!(line, "the message needs {count} parts, not {parts}; ")
         }
+        _ => Ok(()),
     }
-}
-
-// Adds the beginning of the line of a refusal.
-fn push_start(line: &mut String, file: &str, place: Position) -> Result<(), AllocError> {
-    push_place(line, file, place)?;
-    line.push_str("refused: ")
 }
 
 /// Adds the line of a FILE that was not converted, unless memory ran out; before it the lines on
@@ -183,26 +162,25 @@ pub(crate) fn push_refusal(
     known: &RefusedFile<'_>,
     fault: &Fault,
 ) -> Result<(), AllocError> {
-    let file = known.file;
-    match fault {
-        Fault::Unread(fault, place, told) => {
-            push_start(line, file, *place)?;
-            push_stopped(line, fault, told)?;
-        }
-        Fault::Refused(refusal) => {
-            if let Refusal::Wrong(_, _, _, _) = refusal {
-                line.push_str(known.notes.of_wrong.text.as_str())?;
-            }
-            push_start(line, file, place_of(refusal))?;
-            push_refused(line, refusal, known)?;
-        }
+    let (place, (words, value)) = match fault {
+        Fault::Unread(fault, place, told) => (*place, of_unread(fault, told)),
+        Fault::Refused(refusal) => of_refused(refusal, known.notes),
         Fault::Memory => return Ok(()),
+    };
+    if let Fault::Refused(Refusal::Wrong(_, _, _, _)) = fault {
+        line.push_str(known.notes.of_wrong.text.as_str())?;
     }
+    push_place(line, known.file, place)?;
+    line.push_str("refused: ")?;
+    if let Fault::Refused(refusal) = fault {
+        push_numbers(line, refusal, known.options)?;
+    }
+    push_words(line, words, value)?;
     line.push_str("\n")
 }
 
 /// Adds the line of a FILE that is packed by its name.
 pub(crate) fn push_packed(line: &mut String, file: &str) -> Result<(), AllocError> {
-    push_start(line, file, Position::first())?;
-    line.push_str("packed; gunzip -c or unzip -p unpacks it\n")
+    push_place(line, file, Position::first())?;
+    line.push_str("refused: packed; gunzip -c or unzip -p unpacks it\n")
 }

@@ -50,7 +50,9 @@ impl<'a, R: Read + Drop, C: Clock, E: Write + Drop> Watched<'a, R, C, E> {
     }
 
     /// Why a read failed, where one did. The line on the terminal is taken away.
-    pub(crate) fn into_fault(self) -> Option<FileFault> {
+    pub(crate) fn into_fault(self) -> Option<FileFault>
+        ensures { result ≡ self.entry.fault }
+    {
         let (mut progress, mut errors) = (self.progress, self.errors);
         progress.clear(&mut errors);
         self.fault

@@ -1,3 +1,4 @@
 pub mod Holdings
 pub mod Names
 pub mod Texts
+pub mod Faults

@@ -1,9 +1,10 @@
-//! Why a text is no precedence table or no table of terms, and in which line. What is told here is
-//! text alone, of which no clause says anything.
+//! Why a text is no precedence table or no table of terms. Of an item that is none its reader is asked
+//! which key makes it so: each in turn stands in one that is right, in place of that one's own.
 
-use crate::keys::{Key, RULE, RULES, TERM, TERMS, is_right};
-use crate::places::{line_at, line_of_item, line_of_key, line_of_key_in};
-use std::alloc::Global;
+use crate::keys::{Key, RULE, TERM};
+use feed_terms::table::Terms;
+use price_rules::precedence::Precedence;
+use std::alloc::{AllocError, Global};
 use std::io::Write;
 use toml::{Table, Value};
 
@@ -16,158 +17,147 @@ pub(crate) enum File<'a> {
     Terms,
 }
 
-// What is wrong with a table, or with an item of the array in it.
+// What a table of a kind has: the array of its items, the keys of an item, also as they are told; and
+// how a line begins, of the whole and of an item.
 #[derive(Clone, Copy)]
-enum Cause<'a> {
-    // The item itself.
-    Item(&'static str),
-    Missing(&'static Key),
-    Wrong(&'static Key),
-    // It has this key, and may have only those.
-    Other(&'a str, &'static [Key]),
+struct Form<'a> {
+    array: &'static str,
+    keys: &'static [Key],
+    names: &'static str,
+    name: &'a str,
+    whole: &'static str,
+    item: &'static str,
 }
 
 impl<'a> File<'a> {
-    // The key of the array of its items.
-    fn array(self) -> &'static str {
+    fn form(self) -> Form<'a> {
         match self {
-            File::Rules(_) => "rule",
-            File::Terms => "term",
+            File::Rules(name) => Form {
+                array: "rule",
+                keys: &RULE[..],
+                names: "series, max, codes",
+                name,
+                whole: "",
+                item: "rule ",
+            },
+            File::Terms => Form {
+                array: "term",
+                keys: &TERM[..],
+                names: "types, codes, scheme, supplier, currency, net, percent, tax",
+                name: "terms",
+                whole: "not TOML: ",
+                item: "bad term ",
+            },
         }
     }
 
-    // The keys of the whole, and of an item.
-    fn keys(self) -> (&'static [Key], &'static [Key]) {
+    // Whether a text is a table of its kind.
+    fn takes(self, alloc: Global, text: &str) -> bool {
         match self {
-            File::Rules(_) => (&RULES[..], &RULE[..]),
-            File::Terms => (&TERMS[..], &TERM[..]),
-        }
-    }
-
-    // Begins the line of what is wrong with the whole, or with the item at this number.
-    fn write_place<E: Write>(self, number: Option<usize>, line: Option<usize>, errors: &mut E) {
-        let _ = match (self, number) {
-            (File::Rules(name), _) => write!(errors, "onixdesk: {name}: "),
-            (File::Terms, Some(number)) => write!(errors, "onixdesk: terms: bad term {number}: "),
-            (File::Terms, None) => write!(errors, "onixdesk: terms: not TOML: "),
-        };
-        if let Some(line) = line {
-            let _ = write!(errors, "line {line}: ");
-        }
-        if let (File::Rules(_), Some(number)) = (self, number) {
-            let _ = write!(errors, "rule {number}: ");
+            File::Rules(_) => Precedence::read(alloc, text).is_ok(),
+            File::Terms => Terms::read(alloc, text).is_ok(),
         }
     }
 }
 
-// Whether keys have this name.
-fn has_name(keys: &[Key], name: &str) -> bool {
-    keys.iter().any(|key| key.name == name)
-}
-
-// What is wrong first with a table that has these keys; none where nothing is.
-fn cause_in<'a>(table: &'a Table, keys: &'static [Key]) -> Option<Cause<'a>> {
-    for name in table.keys() {
-        if !has_name(keys, name.as_str()) {
-            return Some(Cause::Other(name.as_str(), keys));
+// A table of one item that is right, but for this key and the one beside it, which are those of
+// another.
+fn text_with(
+    alloc: Global,
+    form: &Form<'_>,
+    item: &Table,
+    judged: &Key,
+) -> Result<String, AllocError> {
+    let mut text = format!(in alloc; "[[{}]]\n", form.array)?;
+    for key in form.keys {
+        let name = key.name;
+        if name != judged.name && name != judged.beside {
+            text.push_str(key.right)?;
+        } else if let Some(value) = item.get(name) {
+            write!(text, "{name} = {value}\n")?;
         }
     }
-    for key in keys {
-        match table.get(key.name) {
-            None if key.is_needed => return Some(Cause::Missing(key)),
-            Some(value) if !is_right(key.kind, value, table) => return Some(Cause::Wrong(key)),
-            _ => {}
-        }
-    }
-    None
+    Ok(text)
 }
 
-// Why an item that has these keys is none.
-fn cause_of_item<'a>(value: Option<&'a Value>, keys: &'static [Key]) -> Cause<'a> {
-    match value.and_then(Value::as_table) {
-        Some(table) => match cause_in(table, keys) {
-            Some(cause) => cause,
-            None => Cause::Item("past number 1000"),
-        },
-        None => Cause::Item("no table"),
-    }
-}
-
-// The key of a table that a cause is about.
-fn key_of<'a>(cause: Cause<'a>) -> Option<&'a str> {
-    match cause {
-        Cause::Item(_) | Cause::Missing(_) => None,
-        Cause::Wrong(key) => Some(key.name),
-        Cause::Other(name, _) => Some(name),
-    }
-}
-
-// Whether a key may stand without quotation marks.
-fn is_bare(key: &str) -> bool {
-    key.bytes().all(|byte| byte.is_ascii_alphanumeric() || byte == b'-' || byte == b'_')
-}
-
-// Writes that a table has another key than these, which is named unless it has to be in quotation
-// marks.
-fn write_other<E: Write>(name: &str, keys: &[Key], errors: &mut E) {
-    let _ = write!(errors, "another key than ");
-    let mut mark = "";
-    for key in keys {
-        let _ = write!(errors, "{mark}{}", key.name);
-        mark = ", ";
-    }
-    let _ = if is_bare(name) {
-        write!(errors, ": {name}\n")
-    } else {
-        write!(errors, "\n")
-    };
-}
-
-// Writes what is wrong, to the end of the line.
-fn write_cause<E: Write>(cause: Cause<'_>, errors: &mut E) {
-    let _ = match cause {
-        Cause::Item(said) => write!(errors, "{said}\n"),
-        Cause::Missing(key) => write!(
-            errors,
-            "{} is missing; it has to be {}\n",
-            key.name, key.rule
-        ),
-        Cause::Wrong(key) => write!(errors, "{} is not {}\n", key.name, key.rule),
-        Cause::Other(name, keys) => return write_other(name, keys, errors),
-    };
-}
-
-// Writes the line of what is wrong with a table, of this text; with the item at a number of its array,
-// where there is one.
-fn write_table<E: Write>(
+// The first key for which an item is none.
+fn first_wrong(
+    alloc: Global,
     file: File<'_>,
-    text: &str,
-    table: &Table,
-    number: Option<usize>,
-    errors: &mut E,
-) {
-    let (keys, item_keys) = file.keys();
-    let Some(number) = number else {
-        if let Some(cause) = cause_in(table, keys) {
-            let line = key_of(cause).and_then(|key| line_of_key(text, key));
-            file.write_place(None, line, errors);
-            write_cause(cause, errors);
+    item: &Table,
+) -> Result<Option<&'static Key>, AllocError> {
+    let form = file.form();
+    for key in form.keys {
+        let text = text_with(alloc, &form, item, key)?;
+        if !file.takes(alloc, text.as_str()) {
+            return Ok(Some(key));
         }
-        return;
-    };
-    let items = match table.get(file.array()).and_then(Value::as_array) {
-        Some(items) => items.as_slice(),
-        None => &[],
-    };
-    let cause = cause_of_item(items.get(number.saturating_sub(1)), item_keys);
-    let head = line_of_item(text, file.array(), items.len(), number);
-    let line = head.map(|head| line_of_key_in(text, head, key_of(cause)));
-    file.write_place(Some(number), line, errors);
-    write_cause(cause, errors);
+    }
+    Ok(None)
 }
 
-/// Writes the line of a fault of this text, of the item at a number where there is one: in which line
-/// of the text it is, unless that is not known, and the cause.
+// That a table has another key than these, with commas between them, where it has one.
+fn why_other(alloc: Global, names: &str, table: &Table) -> Result<Option<String>, AllocError> {
+    for key in table.keys() {
+        let key = key.as_str();
+        if !names.split(", ").any(|name| name == key) {
+            let why = format!(in alloc; "another key than {names}: {key:?}")?;
+            return Ok(Some(why));
+        }
+    }
+    Ok(None)
+}
+
+// Why an item is none.
+fn why_item(alloc: Global, file: File<'_>, item: Option<&Value>) -> Result<String, AllocError> {
+    let Some(item) = item.and_then(Value::as_table) else {
+        return String::from_str(alloc, "no table");
+    };
+    if let Some(why) = why_other(alloc, file.form().names, item)? {
+        return Ok(why);
+    }
+    match first_wrong(alloc, file, item)? {
+        Some(key) if item.get(key.name).is_some() => {
+            format!(in alloc; "{} is not {}", key.name, key.rule)
+        }
+        Some(key) => { format!(in alloc; "{} is missing; it has to be {}", key.name, key.rule) }
+        None => String::from_str(alloc, "past number 1000"),
+    }
+}
+
+// Why a text is no table, or why the item at a number of its array is none.
+fn why(
+    alloc: Global,
+    file: File<'_>,
+    text: &[u8],
+    number: Option<usize>,
+) -> Result<String, AllocError> {
+    let array = file.form().array;
+    let table = match toml::table_from_slice(alloc, text) {
+        Ok(table) => table,
+        Err(error) => {
+            let place = error.span().map_or(0, |span| span.start);
+            let line = text
+                .iter()
+                .take(place)
+                .filter(|byte| **byte == b'\n')
+                .count();
+            return format!(in alloc; "line {}: {}", line.saturating_add(1), error.message());
+        }
+    };
+    if let Some(number) = number {
+        let items = table.get(array).and_then(Value::as_array);
+        let item = items.and_then(|items| items.get(number.saturating_sub(1)));
+        return why_item(alloc, file, item);
+    }
+    match why_other(alloc, array, &table)? {
+        Some(why) => Ok(why),
+        None => format!(in alloc; "{array} is not an array"),
+    }
+}
+
+/// Writes the line of a fault of this text, of the item at a number where there is one. Without memory
+/// it is lost.
 pub(crate) fn write_fault<E: Write>(
     alloc: Global,
     file: File<'_>,
@@ -175,18 +165,13 @@ pub(crate) fn write_fault<E: Write>(
     number: Option<usize>,
     errors: &mut E,
 ) {
-    match toml::table_from_slice(alloc, text) {
-        Ok(table) => {
-            let text = std::str::from_utf8(text).unwrap_or("");
-            write_table(file, text, &table, number, errors);
-        }
-        Err(error) => {
-            let place = match error.span() {
-                Some(span) => span.start,
-                None => 0,
-            };
-            file.write_place(None, Some(line_at(text, place)), errors);
-            let _ = write!(errors, "{}\n", error.message());
-        }
-    }
+    let form = file.form();
+    let name = form.name;
+    let Ok(told) = why(alloc, file, text, number) else {
+        return;
+    };
+    let _ = match number {
+        Some(number) => write!(errors, "onixdesk: {name}: {}{number}: {told}\n", form.item),
+        None => write!(errors, "onixdesk: {name}: {}{told}\n", form.whole),
+    };
 }

@@ -38,11 +38,6 @@ pub fn table_of(alloc: Global, bytes: &[u8]) -> Result<Precedence, RulesFault>
     }
 }
 
-// Writes the line of a fault of the file behind `--rules`.
-fn report_fault<E: Write>(fault: &PrecedenceFault, errors: &mut E) {
-    let _ = write!(errors, "onixdesk: rules: {fault}\n");
-}
-
 // Reports why a file has no text, as far as that is not done.
 fn report_unread<E: Write>(
     fault: InputFault,
@@ -56,7 +51,7 @@ fn report_unread<E: Write>(
         InputFault::Read => RulesFault::Unreadable,
         InputFault::TooLarge => {
             if is_option {
-                report_fault(&PrecedenceFault::NotToml, errors);
+                let _ = write!(errors, "onixdesk: rules: not TOML\n");
             }
             let _ = write!(errors, "onixdesk: {name}: more than 4,194,304 bytes\n");
             RulesFault::Table(PrecedenceFault::NotToml)
@@ -86,7 +81,7 @@ fn report_text<E: Write>(
         }
     };
     if is_option {
-        report_fault(fault, errors);
+        let _ = write!(errors, "onixdesk: rules: {fault}\n");
     }
     write_fault(alloc, File::Rules(name), text, number, errors);
 }

@@ -15,13 +15,6 @@ use program_files::NamedFiles;
 use std::alloc::Global;
 use std::io::Write;
 
-fn text_of(doubt: TaxDoubt) -> &'static str {
-    match doubt {
-        TaxDoubt::Mixed => "has no tax, and its types and net are of prices with tax and without",
-        TaxDoubt::NoTaxToTake => "has a tax, and a type is of prices without, or net with it",
-    }
-}
-
 // Writes a line for each term that is to be looked at again: since an earlier one always precedes
 // it, or else since its types do not fit its tax.
 fn write_doubts<E: Write>(terms: &[Term], errors: &mut E) {
@@ -34,7 +27,14 @@ fn write_doubts<E: Write>(terms: &[Term], errors: &mut E) {
                 "onixdesk: terms: term {number} never counts: term {earlier} always precedes it\n"
             );
         } else if let Some(doubt) = doubt_of(&terms[at]) {
-            let why = text_of(doubt);
+            let why = match doubt {
+                TaxDoubt::Mixed => {
+                    "has no tax, and its types and net are of prices with tax and without"
+                }
+                TaxDoubt::NoTaxToTake => {
+                    "has a tax, and a type is of prices without, or net with it"
+                }
+            };
             let _ = write!(errors, "onixdesk: terms: term {number} {why}\n");
         }
     }

@@ -38,27 +38,17 @@ pub enum OptionName {
 }
 
 impl OptionName {
-    // The option as the help shows it.
-    fn shown(self) -> &'static str {
+    // The option as the help shows it, and what its word has to be.
+    fn shown(self) -> (&'static str, &'static str) {
         match self {
-            OptionName::Parts => "--parts <P>",
-            OptionName::Number => "--number <N>",
-            OptionName::NumberOffset => "--number-offset <K>",
-            OptionName::Sender => "--sender <TYPE,VALUE>",
-            OptionName::Addressee => "--addressee <TYPE,VALUE>",
-            OptionName::Supplier => "--supplier <TYPE,VALUE>",
-            OptionName::IdType => "--id-type <TT>",
-            OptionName::Wrong => "--wrong <none|few|all>",
-        }
-    }
-
-    // What its word has to be.
-    fn rule(self) -> &'static str {
-        match self {
-            OptionName::Parts | OptionName::Number | OptionName::NumberOffset => NINE_DIGITS,
-            OptionName::Sender | OptionName::Addressee | OptionName::Supplier => IDENTIFIER,
-            OptionName::IdType => "two digits",
-            OptionName::Wrong => "none, few or all",
+            OptionName::Parts => ("--parts <P>", NINE_DIGITS),
+            OptionName::Number => ("--number <N>", NINE_DIGITS),
+            OptionName::NumberOffset => ("--number-offset <K>", NINE_DIGITS),
+            OptionName::Sender => ("--sender <TYPE,VALUE>", IDENTIFIER),
+            OptionName::Addressee => ("--addressee <TYPE,VALUE>", IDENTIFIER),
+            OptionName::Supplier => ("--supplier <TYPE,VALUE>", IDENTIFIER),
+            OptionName::IdType => ("--id-type <TT>", "two digits"),
+            OptionName::Wrong => ("--wrong <none|few|all>", "none, few or all"),
         }
     }
 }
@@ -116,8 +106,7 @@ impl<'a> BadWords<'a> {
     {
         match self {
             BadWords::Value { option, word } => {
-                let rule = option.rule();
-                let option = option.shown();
+                let (option, rule) = option.shown();
                 format!(in alloc; "error: invalid value '{word}' for '{option}': not {rule}\n")
             }
             BadWords::TwoNumbers => {

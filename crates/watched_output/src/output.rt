@@ -1,18 +1,10 @@
 //! An output of which is seen what is written.
 
+ghost use Rattle.std.specs.Prelude.{◌≡◌};
+
 use crate::progress::Progress;
 use std::io::{ErrorKind, Result, Write};
 use std::time::Clock;
-
-// Why an output takes no more, by an error of the system.
-fn cause_of(kind: ErrorKind) -> &'static str {
-    match kind {
-        ErrorKind::BrokenPipe => "the program that reads it has ended",
-        ErrorKind::StorageFull | ErrorKind::QuotaExceeded => "no space left on the disk",
-        ErrorKind::FileTooLarge => "its file may not grow further",
-        _ => "it is closed, or accepts nothing",
-    }
-}
 
 /// Gives a writer what it is given, and may show on `errors` how much that is.
 #[derive(Drop)]
@@ -27,7 +19,9 @@ pub struct Watched<'a, W, E, C> {
 
 impl<'a, W: Write, E: Write, C: Clock> Watched<'a, W, E, C> {
     /// A writer to which nothing was written yet, and whether a line shows how much was.
-    pub fn new(clock: &'a C, writer: W, errors: E, is_shown: bool) -> Watched<'a, W, E, C> {
+    pub fn new(clock: &'a C, writer: W, errors: E, is_shown: bool) -> Watched<'a, W, E, C>
+        ensures { result.writer ≡ writer }
+    {
         Watched {
             writer,
             errors,
@@ -39,10 +33,14 @@ impl<'a, W: Write, E: Write, C: Clock> Watched<'a, W, E, C> {
 
     /// Says on `errors` why the writer takes no more, if it gave an error that shows it.
     pub fn tell_fault(&mut self) {
-        if let Some(kind) = self.fault {
-            let why = cause_of(kind);
-            let _ = write!(self.errors, "onixdesk: standard output: {why}\n");
-        }
+        let why = match self.fault {
+            Some(ErrorKind::BrokenPipe) => "the program that reads it has ended",
+            Some(ErrorKind::StorageFull | ErrorKind::QuotaExceeded) => "no space left on the disk",
+            Some(ErrorKind::FileTooLarge) => "its file may not grow further",
+            Some(_) => "it is closed, or accepts nothing",
+            None => return,
+        };
+        let _ = write!(self.errors, "onixdesk: standard output: {why}\n");
     }
 
     /// Takes the line away.

@@ -1,10 +1,15 @@
 //! Texts of others, as one line of a terminal shows them.
 
-use std::alloc::AllocError;
+ghost use Rattle.std.specs.Prelude.{◌≡◌, ◌++◌, IfOk, OnOk, chars, string_bytes};
+ghost use Rattle.watched_output.specs.Shown.{is_printable, shown, shown_char, shown_chars};
+
+use std::alloc::{AllocError, Global};
 use ucd_category::GeneralCategory;
 
 // Whether a character stands on a line as it is, and neither moves nor changes what stands there.
-fn is_printable(c: char) -> bool {
+fn is_printable(c: char) -> bool
+    ensures { result ≡ is_printable c }
+{
     match GeneralCategory::for_char(c) {
         GeneralCategory::Control
         | GeneralCategory::Format
@@ -18,31 +23,40 @@ fn is_printable(c: char) -> bool {
     }
 }
 
-// Adds the escape of a character.
-fn push_escape(line: &mut String, c: char) -> Result<(), AllocError> {
-    let code = c as u32;
-    match c {
-        '\t' => line.push_str("\\t"),
-        '\n' => line.push_str("\\n"),
-        '\r' => line.push_str("\\r"),
-        _ if code < 0x100 => write!(line, "\\x{code:02x}"),
-        _ if code < 0x10000 => write!(line, "\\u{code:04x}"),
-        _ => write!(line, "\\U{code:08x}"),
-    }
+// A character as it is shown.
+fn shown_char(c: char) -> char
+    ensures { result ≡ shown_char c }
+{
+    if is_printable(c) { c } else { '\u{fffd}' }
 }
 
-/// Adds a text as it is shown: so many of its characters at most, and in place of each that moves
-/// or changes what stands on the line its escape.
-pub fn push_shown(line: &mut String, text: &str, most: usize) -> Result<(), AllocError> {
-    for (number, c) in text.chars().enumerate() {
-        if number == most {
-            return line.push_str("..");
-        }
-        if is_printable(c) {
-            line.push(c)?;
-        } else {
-            push_escape(line, c)?;
-        }
+fn characters_of(alloc: Global, text: &str) -> Result<Vec<char>, AllocError>
+    ensures { IfOk result (λ v. v.items ≡ chars text.now) }
+{
+    text.chars().collect(alloc)
+}
+
+// Adds characters as they are shown.
+fn push_chars(line: &mut String, characters: &[char]) -> Result<(), AllocError>
+    ensures { OnOk result
+        (string_bytes line.new ≡ string_bytes line.old ++ shown_chars characters.now) }
+{
+    for c in characters {
+        line.push(shown_char(*c))?;
     }
     Ok(())
+}
+
+/// Adds a text as it is shown: so many of its characters at most, and a sign in place of each that
+/// moves or changes what stands on the line.
+pub fn push_shown(line: &mut String, text: &str, most: usize) -> Result<(), AllocError>
+    ensures { OnOk result
+        (string_bytes line.new ≡ string_bytes line.old ++ shown most (chars text.now)) }
+{
+    let characters = characters_of(*line.allocator(), text)?;
+    if characters.len() <= most {
+        return push_chars(line, characters.as_slice());
+    }
+    push_chars(line, &characters.as_slice()[..most])?;
+    line.push_str("..")
 }

@@ -73,16 +73,16 @@ def files(room: Room) -> Iterator[Outcome]:
             came = told(room.told(*words), name)
             yield Outcome(f"why: {' '.join(words)}", came, fault(f"file: {name}", status=2))
     room.write("rules.toml", b'[[rule]]\nserie = "*"\n')
-    came = told(room.told("--rules", "rules.toml", "batch"), "rules.toml: line 2")
+    came = told(room.told("--rules", "rules.toml", "batch"), "rules.toml: rule 1")
     yield Outcome("why: a rules file", came, fault("rules: bad rule 1", status=2))
 
 
 # What is wrong in files, with the words in which `pipe` stands for the file, and how the last line begins.
 PIPED = {
-    ("--rules", "pipe", "batch"): (b'[[rule]]\nserie = "*"\n', 2, "pipe: line 2: rule 1: "),
-    ("rules", "pipe"): (b"rule = 1\n", 2, "pipe: line 1: rule is not an array"),
-    ("terms", "pipe"): (b"term = 1\n", 2, "terms: not TOML: line 1: "),
-    ("convert", "--terms", "pipe"): (b"\nterm = 1\n", 2, "terms: not TOML: line 2: "),
+    ("--rules", "pipe", "batch"): (b'[[rule]]\nserie = "*"\n', 2, "pipe: rule 1: "),
+    ("rules", "pipe"): (b"rule = 1\n", 2, "pipe: rule is not an array"),
+    ("terms", "pipe"): (b"term = 1\n", 2, "terms: not TOML: term is not an array"),
+    ("convert", "--terms", "pipe"): (b"\nterm = 1\n", 2, "terms: not TOML: term is not an array"),
     ("deliver", "pipe"): (b"\n<ONIXMessage>", 1, "pipe: line 2: <ONIXMessage>: "),
     ("check", "pipe"): (b"AskGaps,north\nAskGaps\n", 1, "pipe: line 2: AskGaps: "),
 }

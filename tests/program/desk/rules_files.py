@@ -1,5 +1,5 @@
 """Rules files that are read or refused. With each the program answers no requests, and writes the line of a fault or
-nothing; the command `rules` says which line is wrong, and why."""
+nothing; the command `rules` says what is wrong."""
 
 from collections.abc import Iterator
 

@@ -67,7 +67,7 @@ ENDS = [
             ("<Product><Record", CUT),
             ("<Product>R", CUT),
             ("<!-- ", CUT),
-            ("</Other>", f"{NO_XML} </Other> within <ONIXMessage>, which begins at 1:1"),
+            ("</Other>", f"{NO_XML} </Other>"),
             (f"{FRAME.behind}</Other>", f"{NO_XML} </Other>"),
         ]
     ),

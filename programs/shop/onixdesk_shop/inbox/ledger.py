@@ -330,6 +330,11 @@ class Ledger:
         """How many records the series has, as far as the ledger knows."""
         return int(self.value("SELECT count(*) FROM reference WHERE NOT deleted"))
 
+    def isbns_of(self, reference: str) -> list[str]:
+        """By which the desk finds a record, as far as the ledger knows."""
+        query = "SELECT isbns FROM reference WHERE reference = ? AND NOT deleted"
+        return str(self.value(query, reference) or "").split()
+
     def references_before(self, number: int) -> list[str]:
         """The references that no message from that number on has named."""
         query = "SELECT reference FROM reference WHERE NOT deleted AND number < ? ORDER BY reference"

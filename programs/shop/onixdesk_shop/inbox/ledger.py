@@ -214,7 +214,7 @@ class Ledger:
 
     def heard_at(self) -> int | None:
         """When the last file with products came."""
-        found: int | None = self.value("SELECT max(seen) FROM file WHERE coalesce(products, 1) > 0")
+        found: int | None = self.value("SELECT max(seen) FROM file WHERE size > 0 AND coalesce(products, 1) > 0")
         return found
 
     def kinds_since(self, second: int) -> list[list[str]]:

@@ -111,7 +111,8 @@ deliver() {
     rm -r "$whole"
 }
 
-# Overwrites no file that waits in the folder: that one gets a name with its digest.
+# Overwrites no file that waits in the folder: that one gets the name that the inbox gives what it takes, which
+# FULL_NAMES matches as before.
 put() {
     local to=$folder/$1 part=$folder/.fetched.part
     rm -rf -- "$part"
@@ -122,7 +123,7 @@ put() {
         return
     fi
     if [ -e "$to" ] && ! cmp -s -- "$to" "$part"; then
-        mv -T -- "$to" "$folder/$(sha256sum <"$to" | cut -c 1-12)-$(tail -c 200 <<<"$1")" || return
+        mv -T -- "$to" "$folder/taken-$(sha256sum <"$to" | cut -c 1-12)-$(tail -c 200 <<<"$1")" || return
     fi
     mv -T -- "$part" "$to" && rm -- "$whole/$1"
 }

@@ -18,6 +18,7 @@ class Book:
     currency: str = "GBP"
     availability: str = "21"
     later: tuple[str, str] | None = None
+    id_type: str = "15"
 
     @property
     def isbn(self) -> str:
@@ -47,7 +48,7 @@ def supply(book: Book) -> str:
 def product(book: Book) -> str:
     return (
         f"<Product><RecordReference>{book.reference or f'R{book.number}'}</RecordReference>"
-        f"<NotificationType>{book.kind}</NotificationType><ProductIdentifier><ProductIDType>15</ProductIDType>"
+        f"<NotificationType>{book.kind}</NotificationType><ProductIdentifier><ProductIDType>{book.id_type}</ProductIDType>"
         f"<IDValue>{book.isbn}</IDValue></ProductIdentifier><DescriptiveDetail><TitleDetail><TitleType>01</TitleType>"
         f"<TitleElement><TitleElementLevel>01</TitleElementLevel><TitleText>Book {book.number} &eacute;</TitleText>"
         f"</TitleElement></TitleDetail></DescriptiveDetail>{'' if book.kind == '05' else supply(book)}</Product>"

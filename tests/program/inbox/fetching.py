@@ -14,6 +14,8 @@ from collections.abc import Iterator
 from pathlib import Path
 from typing import Any
 
+from onixdesk_shop.inbox.intake import name_of
+from onixdesk_shop.machine import Machine
 from tests.program.documents.examples import blocks
 from tests.program.room import SECONDS, Ran, Room
 from tests.program.serving import HOST, connected, free_port
@@ -226,6 +228,8 @@ def sftp_is_moved(room: Room) -> Iterator[Outcome]:
         fetch.offer("feed.xml", "two", 90 * DAY)
         status = fetch.run().status
         yield Outcome("fetch: a name used daily", (status, sorted(fetch.came().values())), (0, ["one", "two"]))
+        names = {name_of(entry) for entry in Machine("test").entries(fetch.incoming) if entry.is_regular}
+        yield Outcome("fetch: the inbox knows both by that name", names, {"feed.xml"})
         fetch.take()
         yield Outcome("fetch: nothing is left", (fetch.run(), fetch.came()), (Ran(0), {}))
 

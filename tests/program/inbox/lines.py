@@ -96,6 +96,7 @@ def never_heard(room: Room) -> Iterator[Outcome]:
     inbox = inbox_in(room, "never")
     inbox.clock = int(time.time())
     yield Outcome("at first", (inbox.run(), inbox.shown()["silent"]), ([], False))
+    inbox.take("empty.xml", b"")
     inbox.clock += 5 * DAY
     found = inbox.run(), inbox.run(), inbox.shown()["silent"], inbox.shown()["heard_at"]
     yield Outcome("once", found, (["nothing came for 4 days but empty files"], [], True, None))

@@ -86,10 +86,10 @@ def look_at(inbox: Inbox, feed: Feed) -> tuple[Findings, int] | None:
 
 
 def products_in(feed: Feed) -> Iterator[Product]:
-    """The products that change what the desk finds by an ISBN; an update without supplies does not."""
+    """The products that change what the desk finds; an update without supplies does not."""
     for message in feed.messages:
         for product in products_of(message.text):
-            if product.isbns and (product.has_supply or product.is_block or product.is_deletion):
+            if product.has_supply or product.is_block or product.is_deletion:
                 yield product
 
 
@@ -157,15 +157,20 @@ def ask(inbox: Inbox, questions: list[str]) -> Iterator[Records]:
 
 
 def known_of(inbox: Inbox, products: dict[str, list[Product]], kind: Kind) -> dict[str, str]:
-    """The references whose ISBN the desk has from this series, each with its ISBN."""
+    """The references whose ISBN the desk has from this series, each with its ISBN: the file's, or else the one that the
+    ledger has, since a file may delete a record, or replace it, by another identifier."""
     day, where = inbox.machine.today(), f"{kind.country},{kind.currency},{kind.price_type}"
-    isbns = {reference: many[0].isbns[0] for reference, many in products.items()}
-    answers = ask(inbox, [f"AskPrice,{isbn},{day},{where}" for isbn in isbns.values()])
-    return {
-        reference: isbn
-        for (reference, isbn), answer in zip(isbns.items(), answers, strict=True)
-        if any(record[1] == inbox.series for record in answer[1:])
-    }
+    pairs = [
+        (reference, isbn)
+        for reference, many in products.items()
+        for isbn in dict.fromkeys([*many[0].isbns[:1], *inbox.ledger.isbns_of(reference)[:1]])
+    ]
+    answers = ask(inbox, [f"AskPrice,{isbn},{day},{where}" for _, isbn in pairs])
+    found: dict[str, str] = {}
+    for (reference, isbn), answer in zip(pairs, answers, strict=True):
+        if any(record[1] == inbox.series for record in answer[1:]):
+            found.setdefault(reference, isbn)
+    return found
 
 
 def questions_of(isbns: list[str], kinds: list[Kind], today: str) -> list[str]:

@@ -214,7 +214,7 @@ class Ledger:
 
     def heard_at(self) -> int | None:
         """When the last file with products came."""
-        found: int | None = self.value("SELECT max(seen) FROM file WHERE coalesce(products, 1) > 0")
+        found: int | None = self.value("SELECT max(seen) FROM file WHERE size > 0 AND coalesce(products, 1) > 0")
         return found
 
     def kinds_since(self, second: int) -> list[list[str]]:
@@ -329,6 +329,11 @@ class Ledger:
     def articles(self) -> int:
         """How many records the series has, as far as the ledger knows."""
         return int(self.value("SELECT count(*) FROM reference WHERE NOT deleted"))
+
+    def isbns_of(self, reference: str) -> list[str]:
+        """By which the desk finds a record, as far as the ledger knows."""
+        query = "SELECT isbns FROM reference WHERE reference = ? AND NOT deleted"
+        return str(self.value(query, reference) or "").split()
 
     def references_before(self, number: int) -> list[str]:
         """The references that no message from that number on has named."""

@@ -30,19 +30,22 @@ AT_ONCE = 200
 
 
 class Figure(NamedTuple):
-    """What is measured, its value, and what that is made of."""
+    """What is measured, its value, what that is made of, and the target, below zero where it is the least."""
 
     what: str
     value: float
     made_of: str
+    target: float = 0
 
     def line(self) -> str:
-        return f"| {self.what} | {self.value:.2f} | {self.made_of} |"
+        target = f"at {'most' if self.target > 0 else 'least'} {abs(self.target):g}" if self.target else ""
+        missed = ": **not met**" if 0 < self.target < self.value or self.value < -self.target else ""
+        return f"| {self.what} | {self.value:.3g} ({self.made_of}) | {target}{missed} |"
 
 
-def to(what: str, one: Taken, other: Taken) -> Figure:
+def to(what: str, one: Taken, other: Taken, target: float = 0) -> Figure:
     of_both = f"{one.microseconds / 1_000:,.0f} to {other.microseconds / 1_000:,.0f} ms"
-    return Figure(what, one.microseconds / other.microseconds, of_both)
+    return Figure(what, one.microseconds / other.microseconds, of_both, target)
 
 
 class Bench(NamedTuple):
@@ -102,7 +105,7 @@ def messages_in_a_file(bench: Bench) -> Iterator[Figure]:
         raise BenchmarkFault("SQLite alone put other rows than the desk")
     one, other = least_of([Work(bench.batch(given, True), bench.batch(NOTHING, True), bench.made), alone])
     what = f"{count} messages of {PRODUCTS} products with a price each, into a new file"
-    yield to(f"{what}, to SQLite alone writing their rows", one, other)
+    yield to(f"{what}, to SQLite alone writing their rows", one, other, 4.6)
 
 
 def messages_in_memory(bench: Bench) -> Iterator[Figure]:
@@ -110,13 +113,14 @@ def messages_in_memory(bench: Bench) -> Iterator[Figure]:
     work, size = Work(bench.batch(given), bench.batch(NOTHING)), given.stat().st_size
     what = f"{size / 1e6:.2f} MB of messages of 20 products, each with 2 supplies and 4 prices, applied in memory"
     memory = taken(work.run).memory
-    yield Figure(f"peak memory of {what}, to the text", memory / size, f"{memory / 1e6:.1f} MB")
+    yield Figure(f"peak memory of {what}, to the text", memory / size, f"{memory / 1e6:.1f} MB", 12.2)
+    for refusal, last in ("refused", "AskGaps,west\n"), ("malformed", "AskGaps\n"):
+        wrong = bench.text("wrong", [given.read_bytes(), last])
+        refused = work._replace(run=bench.batch(wrong)._replace(status=1))
+        yield to(f"{what}, with one {refusal} request behind them, to without it", *least_of([refused, work]), 1.05)
     records = tools.records(bench.folder)
     alone = Work(Run([records, given]), Run([records, NOTHING]))
     yield to(f"{what}, to `csv` alone reading them", *least_of([work, alone]))
-    wrong = bench.text("wrong", [given.read_bytes(), "AskGaps\n"])
-    refused = work._replace(run=bench.batch(wrong)._replace(status=1))
-    yield to(f"{what}, with one malformed request behind them, to without it", *least_of([refused, work]))
 
 
 def catalogue(records: int, *questions: str) -> Iterator[str]:
@@ -141,7 +145,7 @@ def questions_for_prices(bench: Bench) -> Iterator[Figure]:
     if offers_in(output_of(alone.run)) != offers_in(output_of(asked)):
         raise BenchmarkFault("SQLite alone gave other answers than the desk")
     what = f"{count:,} price questions about {size:,} records in memory, to SQLite alone in memory"
-    yield to(what, *least_of([Work(asked, plain), alone]))
+    yield to(what, *least_of([Work(asked, plain), alone]), 1.5)
 
 
 def questions_for_catalogues(bench: Bench) -> Iterator[Figure]:
@@ -153,7 +157,7 @@ def questions_for_catalogues(bench: Bench) -> Iterator[Figure]:
     answer = bench.text("answer", [answers[answers.index(b"catalogue,") :]])
     alone = Work(Run([records, answer, str(count)]), Run([records, answer, "0"]))
     what = f"{count} catalogues of {size:,} records answered, to `csv` alone writing their records"
-    yield to(what, *least_of([Work(asked, plain), alone]))
+    yield to(what, *least_of([Work(asked, plain), alone]), 6)
 
 
 def pieces(name: str, element: bytes, reference: bytes, size: int) -> Iterator[bytes]:
@@ -178,8 +182,8 @@ def conversion(name: str, bench: Bench) -> Iterator[Figure]:
     (plain,) = least_of([work])
     answer = bench.text("answer", (part.read_bytes() for part in sorted(bench.made.iterdir())))
     speed = size * 1e6 / plain.microseconds
-    yield Figure(f"MB of XML a second, {name}", speed, f"{size:.0f} MB in {plain.microseconds / 1e6:.2f} s")
-    yield Figure("peak memory of that, MB", plain.memory / 1e6, "")
+    yield Figure(f"MB of XML a second, {name}", speed, f"{size:.0f} MB in {plain.microseconds / 1e6:.2f} s", -60)
+    yield Figure("peak memory of that, MB", plain.memory / 1e6, "peak", 16)
     records = tools.records(bench.folder)
     alone = Work(Run([records, answer]), Run([records, NOTHING]))
     yield to("that conversion, to `csv` alone reading the records that it makes", plain, *least_of([alone]))

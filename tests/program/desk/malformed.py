@@ -3,7 +3,9 @@
 The mistakes stand in tests/refusals/requests.txt: the name of a case is what its line says.
 """
 
+import re
 from collections.abc import Iterator
+from random import Random
 
 from tests.program.databases import DATABASE
 from tests.program.room import Ran, Room
@@ -31,14 +33,6 @@ def checked(room: Room) -> Iterator[Outcome]:
         room.write("requests.csv", case.text.encode())
         wanted = Ran(1, b"", line(case.name, "requests.csv: "))
         yield Outcome(f"checked: {case.name}", room.told("check", "requests.csv"), wanted)
-
-
-def answered(room: Room) -> Iterator[Outcome]:
-    """`batch` says it behind its answers, which are those of before."""
-    for case in MISTAKES:
-        came = room.told("batch", given=case.text.encode())
-        said = came.status, b"refused,malformed," in came.output, came.errors
-        yield Outcome(f"answered: {case.name}", said, (1, True, line(case.name)))
 
 
 # A batch with right and wrong pieces, and how the lines on the wrong ones begin: one of two records, an empty line
@@ -111,3 +105,60 @@ def many_mistakes(room: Room) -> Iterator[Outcome]:
     said = line("line 1: EndMessage: the message ends without it", "cut.csv: ") * MOST
     wanted = Ran(1, b"refused,malformed,2\n" * (MOST + 7), said + b"onixdesk: 7 more are malformed\n")
     yield Outcome("delivered: 107 mistakes", room.told("deliver", *["cut.csv"] * (MOST + 7)), wanted)
+
+
+# A right request of each kind and a message in both forms, from which wrong ones are made with these texts.
+REQUESTS = """Agree,north,06,4012345000009,06,5012345678900,1|Waive,north,3|AskGaps,north|AskCatalogue,north
+AskPrice,9781234567897,20250301,GB,GBP,02|AskChoice,9781234567897,20250301,GB,GBP,02,5
+AskCalendar,9781234567897,20250301,20250401,GB,GBP,02""".replace(
+    "\n", "|"
+).split(
+    "|"
+)
+RECORDS = (
+    "Product,R1,03,15,9781234567897|ProductSupply,GB,,|SupplyDetail,04,06,S,N,21,|Price,02,9.99,GBP,,,,,|EndMessage,5"
+)
+MESSAGES = [f"Message,{form},06,S,,,1,1,,02,GBP|{RECORDS}" for form in (1, 2)] * 6
+TEXTS = [
+    "",
+    "  ",
+    "x",
+    "06",
+    "6",
+    "GB",
+    "gb",
+    "GB IE",
+    "GBP",
+    "20250229",
+    "12;5",
+    "WORLD",
+    "0",
+    "1",
+    "North",
+    "\t",
+    "Price",
+]
+SAID = re.compile(r"^onixdesk: (?:-: )?line (.*)$", re.MULTILINE)
+
+
+def fuzzed_request(random: Random) -> str:
+    """A request or a message with a field put in, left out or changed, and of which a record may be moved."""
+    records = [record.split(",") for record in random.choice(REQUESTS + MESSAGES).split("|")]
+    record = random.choice(records)
+    place = random.randrange(len(record))
+    record[place : place + random.randrange(2)] = random.choices(TEXTS, k=random.randrange(2))
+    if random.random() < 0.2:
+        records.insert(random.randrange(len(records)), records.pop(random.randrange(len(records))))
+    return "".join(",".join(record or ["x"]) + "\n" for record in records)
+
+
+def fuzzed(room: Room) -> Iterator[Outcome]:
+    """Each request that is malformed has its line and a reason of its own, of `batch` and of `check` alike."""
+    for seed in range(40):
+        random = Random(seed)
+        given = "".join(fuzzed_request(random) for _ in range(60)).encode()
+        came, checked = room.told("batch", given=given), room.told("check", "-", given=given)
+        said = SAID.findall(came.errors.decode())
+        yield Outcome(f"fuzzed: the lines, {seed}", len(said), came.output.count(b"refused,malformed,"))
+        bare = [line for line in said if line.endswith("it is not allowed here")]
+        yield Outcome(f"fuzzed: the reasons, {seed}", (SAID.findall(checked.errors.decode()), bare), (said, []))

@@ -58,9 +58,7 @@ def begin(lines: bytes) -> bool:
 
 
 def mixed(room: Room) -> Iterator[Outcome]:
-    """The lines come in the order of the text: of `check`, of `batch`, of who sends a batch, and of the desk."""
-    checked = room.told("check", "-", given=MIXED)
-    yield Outcome("mixed: checked", begin(checked.errors.replace(b"onixdesk: -: ", b"onixdesk: ")), True)
+    """The lines come in the order of the text: of `batch`, of who sends a batch, and of the desk."""
     came = room.told("--db", DATABASE, "batch", given=MIXED)
     yield Outcome("mixed: answered", (came.status, begin(came.errors)), (1, True))
     with serving(room, ["--db", DATABASE], 1, ["--batches", "desk.socket"]) as desk:
@@ -98,9 +96,6 @@ def many_mistakes(room: Room) -> Iterator[Outcome]:
     ]
     wanted = b"".join(lines) + b"onixdesk: 7 more are malformed\n"
     yield Outcome("answered: 107 mistakes", room.told("batch", given=given).errors, wanted)
-    room.write("many.csv", given)
-    named = wanted.replace(b"onixdesk: line", b"onixdesk: many.csv: line")
-    yield Outcome("checked: 107 mistakes", room.told("check", "many.csv").errors, named)
     room.write("cut.csv", b"Message,1,06,S,,,1,1,20250301,,\n")
     said = line("line 1: EndMessage: the message ends without it", "cut.csv: ") * MOST
     wanted = Ran(1, b"refused,malformed,2\n" * (MOST + 7), said + b"onixdesk: 7 more are malformed\n")

@@ -8,10 +8,12 @@ sizes by five hundred, to try this command; it measures nothing.
 """
 
 import argparse
+import re
 import subprocess
 import sys
 import tempfile
 from collections.abc import Callable, Iterator
+from datetime import date
 from functools import partial
 from pathlib import Path
 
@@ -55,7 +57,9 @@ def main() -> int:
     program = (given.desk or ROOT / "crates/onixdesk/out/onixdesk").resolve()
     with tempfile.TemporaryDirectory(prefix="onixdesk-") as folder:
         bench = Bench(program, Path(folder), 500 if given.small else 1)
-        is_whole = print_table("| Measure | Measured | Of |", *(partial(it, bench) for it in OF_BENCHMARKS))
+        is_whole = print_table("| Measure | Measured | Target |", *(partial(it, bench) for it in OF_BENCHMARKS))
+        model, *others = re.findall("model name\\s*: (.*)", Path("/proc/cpuinfo").read_text()) or ["unknown"]
+        print(f"One run on {date.today():%d %B %Y}, on {1 + len(others)} processors: {model}.\n", flush=True)
         return 0 if print_table(growth.HEAD, partial(growth.sizes, bench)) and is_whole else 1
 
 

@@ -1,5 +1,5 @@
-"""The program's time for messages, questions and feeds, relative to SQLite in C and the crate `csv` alone on the same
-bytes. Rows and answers are compared before a time is taken."""
+"""What the program takes of messages, questions and feeds, to what SQLite in C and the crate `csv` take alone for the
+same bytes. Rows and answers are compared before a time is taken."""
 
 import shutil
 import sqlite3
@@ -14,39 +14,42 @@ from tools.root import ROOT
 
 TABLES = ("series", "record", "article", "offer", "price", "price_minimum", "applied")
 
-# The number of messages and of products in each, the products of a catalogue, the number of price questions and of
-# catalogues, and the MB of XML in a feed.
+# How many messages bring how many products each, how many products a catalogue has, how many prices are asked for, how
+# often the catalogue, and how many MB of XML a feed has.
 MESSAGES, PRODUCTS, CATALOGUE, QUESTIONS, TIMES, MEGABYTES = 500, 20, 5_000, 10_000, 40, 400
 
-# Sample feeds, each with the name of its products and the prefix of their references.
+# Sample feeds, each with the name of its products and what their references begin with.
 FEEDS = {
     "reference names": ("two-products.xml", b"Product", b"com.tidewater.onix.00001"),
     "short tags": ("two-products-short.xml", b"product", b"com.tidewater.onix.00001"),
     "several Markets": ("block-update.xml", b"Product", b"nl-978190000"),
 }
 
-# Products that are written at once, with the same prefix of their references.
+# Products that are written at once, all with the same beginning of their references.
 AT_ONCE = 200
 
 
 class Figure(NamedTuple):
-    """A measure, its value, and what that is computed from."""
+    """What is measured, its value, what that is made of, and the target, below zero where it is the least."""
 
     what: str
     value: float
     made_of: str
+    target: float = 0
 
     def line(self) -> str:
-        return f"| {self.what} | {self.value:.2f} | {self.made_of} |"
+        target = f"at {'most' if self.target > 0 else 'least'} {abs(self.target):g}" if self.target else ""
+        missed = ": **not met**" if 0 < self.target < self.value or self.value < -self.target else ""
+        return f"| {self.what} | {self.value:.3g} ({self.made_of}) | {target}{missed} |"
 
 
-def to(what: str, one: Taken, other: Taken) -> Figure:
+def to(what: str, one: Taken, other: Taken, target: float = 0) -> Figure:
     of_both = f"{one.microseconds / 1_000:,.0f} to {other.microseconds / 1_000:,.0f} ms"
-    return Figure(what, one.microseconds / other.microseconds, of_both)
+    return Figure(what, one.microseconds / other.microseconds, of_both, target)
 
 
 class Bench(NamedTuple):
-    """The program, a folder for files, and the divisor of all sizes."""
+    """The program, a folder for what is read and written, and by what all sizes are divided."""
 
     program: Path
     folder: Path
@@ -64,7 +67,7 @@ class Bench(NamedTuple):
 
     @property
     def made(self) -> Path:
-        """The folder of files that each turn makes anew."""
+        """The folder of what is made anew in each turn."""
         return self.folder / "made"
 
     @property
@@ -72,7 +75,7 @@ class Bench(NamedTuple):
         return self.made / "desk.db"
 
     def batch(self, given: Path, is_in_file: bool = False) -> Run:
-        """The run that answers a batch, over the file or over a desk in memory."""
+        """The run that answers a batch over the file, or over a desk in memory."""
         place: list[Word] = ["--db", self.file] if is_in_file else []
         return Run([self.program, *place, "batch"], given)
 
@@ -84,7 +87,7 @@ class Bench(NamedTuple):
 
 
 def rows(file: Path) -> list[list[tuple[Any, ...]]]:
-    """The rows of each table, sorted by value."""
+    """The rows of each table, in order of their values."""
     with closing(sqlite3.connect(file)) as connection:
         return [sorted(connection.execute(f"SELECT * FROM {table}"), key=repr) for table in TABLES]
 
@@ -102,7 +105,7 @@ def messages_in_a_file(bench: Bench) -> Iterator[Figure]:
         raise BenchmarkFault("SQLite alone put other rows than the desk")
     one, other = least_of([Work(bench.batch(given, True), bench.batch(NOTHING, True), bench.made), alone])
     what = f"{count} messages of {PRODUCTS} products with a price each, into a new file"
-    yield to(f"{what}, to SQLite alone writing their rows", one, other)
+    yield to(f"{what}, to SQLite alone writing their rows", one, other, 4.6)
 
 
 def messages_in_memory(bench: Bench) -> Iterator[Figure]:
@@ -110,17 +113,18 @@ def messages_in_memory(bench: Bench) -> Iterator[Figure]:
     work, size = Work(bench.batch(given), bench.batch(NOTHING)), given.stat().st_size
     what = f"{size / 1e6:.2f} MB of messages of 20 products, each with 2 supplies and 4 prices, applied in memory"
     memory = taken(work.run).memory
-    yield Figure(f"peak memory of {what}, to the text", memory / size, f"{memory / 1e6:.1f} MB")
+    yield Figure(f"peak memory of {what}, to the text", memory / size, f"{memory / 1e6:.1f} MB", 12.2)
+    for refusal, last in ("refused", "AskGaps,west\n"), ("malformed", "AskGaps\n"):
+        wrong = bench.text("wrong", [given.read_bytes(), last])
+        refused = work._replace(run=bench.batch(wrong)._replace(status=1))
+        yield to(f"{what}, with one {refusal} request behind them, to without it", *least_of([refused, work]), 1.05)
     records = tools.records(bench.folder)
     alone = Work(Run([records, given]), Run([records, NOTHING]))
     yield to(f"{what}, to `csv` alone reading them", *least_of([work, alone]))
-    wrong = bench.text("wrong", [given.read_bytes(), "AskGaps\n"])
-    refused = work._replace(run=bench.batch(wrong)._replace(status=1))
-    yield to(f"{what}, with one malformed request behind them, to without it", *least_of([refused, work]))
 
 
 def catalogue(records: int, *questions: str) -> Iterator[str]:
-    """A batch that makes a catalogue with five messages and asks about it."""
+    """A batch that makes a catalogue by five messages and asks about it."""
     yield texts.AGREEMENT
     yield from (texts.offers(number, records // 5) for number in range(1, 6))
     yield from questions
@@ -141,7 +145,7 @@ def questions_for_prices(bench: Bench) -> Iterator[Figure]:
     if offers_in(output_of(alone.run)) != offers_in(output_of(asked)):
         raise BenchmarkFault("SQLite alone gave other answers than the desk")
     what = f"{count:,} price questions about {size:,} records in memory, to SQLite alone in memory"
-    yield to(what, *least_of([Work(asked, plain), alone]))
+    yield to(what, *least_of([Work(asked, plain), alone]), 1.5)
 
 
 def questions_for_catalogues(bench: Bench) -> Iterator[Figure]:
@@ -153,11 +157,11 @@ def questions_for_catalogues(bench: Bench) -> Iterator[Figure]:
     answer = bench.text("answer", [answers[answers.index(b"catalogue,") :]])
     alone = Work(Run([records, answer, str(count)]), Run([records, answer, "0"]))
     what = f"{count} catalogues of {size:,} records answered, to `csv` alone writing their records"
-    yield to(what, *least_of([Work(asked, plain), alone]))
+    yield to(what, *least_of([Work(asked, plain), alone]), 6)
 
 
 def pieces(name: str, element: bytes, reference: bytes, size: int) -> Iterator[bytes]:
-    """A feed of about so many bytes: the sample's products repeated."""
+    """A feed of about so many bytes: the sample's products again and again."""
     text = (ROOT / "tests/feeds" / name).read_bytes()
     first, last = text.index(b"<%s" % element), text.rindex(b"</%s>" % element)
     end = text.index(b">", last) + 1
@@ -178,8 +182,8 @@ def conversion(name: str, bench: Bench) -> Iterator[Figure]:
     (plain,) = least_of([work])
     answer = bench.text("answer", (part.read_bytes() for part in sorted(bench.made.iterdir())))
     speed = size * 1e6 / plain.microseconds
-    yield Figure(f"MB of XML a second, {name}", speed, f"{size:.0f} MB in {plain.microseconds / 1e6:.2f} s")
-    yield Figure("peak memory of that, MB", plain.memory / 1e6, "")
+    yield Figure(f"MB of XML a second, {name}", speed, f"{size:.0f} MB in {plain.microseconds / 1e6:.2f} s", -60)
+    yield Figure("peak memory of that, MB", plain.memory / 1e6, "peak", 16)
     records = tools.records(bench.folder)
     alone = Work(Run([records, answer]), Run([records, NOTHING]))
     yield to("that conversion, to `csv` alone reading the records that it makes", plain, *least_of([alone]))

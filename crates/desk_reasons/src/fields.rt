@@ -38,10 +38,13 @@ pub(crate) struct Field {
     pub(crate) may_be_empty: bool,
 }
 
-// Whether each word between spaces is a country.
+// Whether there is a word between spaces, and each is a country.
 fn are_countries(text: &str) -> bool {
-    text.split(' ')
-        .all(|word| word.is_empty() || Country::read(word).is_some())
+    let has_word = text.split(' ').any(|word| !word.is_empty());
+    has_word
+        && text
+            .split(' ')
+            .all(|word| word.is_empty() || Country::read(word).is_some())
 }
 
 // Whether a text is one of that kind.

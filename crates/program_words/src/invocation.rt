@@ -106,7 +106,7 @@ const APART: &str =
     "error: --existing goes with --db alone, and --batches with neither --db nor --rules\n";
 
 // What is said of a number of `serve` that is not read.
-const TOO_LONG: &str = "error: a number of serve has at most 9 digits\n";
+const NOT_DIGITS: &str = "error: a number of serve is 1 to 9 digits, without a sign\n";
 
 // What clap could not read as an invocation, and, where a word is out of its place, what to write.
 fn error_reading<'a>(alloc: Global, words: &[&str], error: &Error) -> Reading<'a>
@@ -258,10 +258,10 @@ fn serve_reading<'a>(alloc: Global, matches: &ArgMatches<'a>, words: &ArgMatches
         → ReadsAs (words_in matches.now) (codes "serve") (words_in words.now) result }
 {
     let Some(port) = port_of(words) else {
-        return wrong_reading(alloc, TOO_LONG);
+        return wrong_reading(alloc, NOT_DIGITS);
     };
     let Some(requests) = requests_of(words) else {
-        return wrong_reading(alloc, TOO_LONG);
+        return wrong_reading(alloc, NOT_DIGITS);
     };
     let batches = text_in(words, "batches");
     let task = Task::Serve {

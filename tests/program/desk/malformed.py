@@ -3,7 +3,9 @@
 The mistakes stand in tests/refusals/requests.txt: the name of a case is what its line says.
 """
 
+import re
 from collections.abc import Iterator
+from random import Random
 
 from tests.program.databases import DATABASE
 from tests.program.room import Ran, Room
@@ -16,7 +18,7 @@ MISTAKES = read_file(TESTS / "refusals/requests.txt")
 # A batch without a mistake.
 RIGHT = b"Agree,north,06,4012345000009,06,5012345678900,1\nAskGaps,north\n"
 
-# How many lines on malformed requests a run writes.
+# How many lines a run writes of requests that are malformed.
 MOST = 100
 
 
@@ -26,23 +28,15 @@ def line(why: str, name: str = "") -> bytes:
 
 
 def checked(room: Room) -> Iterator[Outcome]:
-    """`check` says for each mistake which field of which line is wrong, and why."""
+    """`check` says of each mistake which field of which line is wrong, and why."""
     for case in MISTAKES:
         room.write("requests.csv", case.text.encode())
         wanted = Ran(1, b"", line(case.name, "requests.csv: "))
         yield Outcome(f"checked: {case.name}", room.told("check", "requests.csv"), wanted)
 
 
-def answered(room: Room) -> Iterator[Outcome]:
-    """`batch` says it after its answers, which are the same as before."""
-    for case in MISTAKES:
-        came = room.told("batch", given=case.text.encode())
-        said = came.status, b"refused,malformed," in came.output, came.errors
-        yield Outcome(f"answered: {case.name}", said, (1, True, line(case.name)))
-
-
 # A batch with right and wrong pieces, and how the lines on the wrong ones begin: one of two records, an empty line
-# after it, one with a line break in a field, a message, and one after the message.
+# behind it, one with a line break in a field, a message, and one behind the message.
 MIXED = b"""Agree,north,06,4012345000009,06,5012345678900,1
 AskGaps
 more,1
@@ -64,9 +58,7 @@ def begin(lines: bytes) -> bool:
 
 
 def mixed(room: Room) -> Iterator[Outcome]:
-    """The lines come in the order of the text: those of `check`, `batch`, a batch's sender, and the desk."""
-    checked = room.told("check", "-", given=MIXED)
-    yield Outcome("mixed: checked", begin(checked.errors.replace(b"onixdesk: -: ", b"onixdesk: ")), True)
+    """The lines come in the order of the text: of `batch`, of who sends a batch, and of the desk."""
     came = room.told("--db", DATABASE, "batch", given=MIXED)
     yield Outcome("mixed: answered", (came.status, begin(came.errors)), (1, True))
     with serving(room, ["--db", DATABASE], 1, ["--batches", "desk.socket"]) as desk:
@@ -76,7 +68,7 @@ def mixed(room: Room) -> Iterator[Outcome]:
 
 
 def right_texts(room: Room) -> Iterator[Outcome]:
-    """Nothing is said of right requests; several files are named, standard input as `-`."""
+    """Of what is right nothing is said, of several files each by its name, and of standard input by `-`."""
     room.write("right.csv", RIGHT)
     room.write("wrong.csv", RIGHT + b"AskGaps\n")
     room.write("empty.csv", b"")
@@ -90,24 +82,78 @@ def right_texts(room: Room) -> Iterator[Outcome]:
 
 
 def unread_texts(room: Room) -> Iterator[Outcome]:
-    """If something cannot be read, the run ends with 3, after the lines of what was read."""
+    """What cannot be read ends the run with 3, behind the lines of what was read."""
     none = room.told("check", "none.csv")
     yield Outcome("checked: no file", (none.status, none.errors.splitlines()[0]), (3, b"onixdesk: file: none.csv"))
     yield Outcome("checked: no name", room.told("check").status, 2)
 
 
 def many_mistakes(room: Room) -> Iterator[Outcome]:
-    """Beyond 100 the others are counted."""
+    """Of more than 100 the others are counted."""
     given = b"AskGaps\n" * (MOST + 7)
     lines = [
         line(f"line {row}: AskGaps: 0 fields behind its name, not 1: AskGaps,Series") for row in range(1, MOST + 1)
     ]
     wanted = b"".join(lines) + b"onixdesk: 7 more are malformed\n"
     yield Outcome("answered: 107 mistakes", room.told("batch", given=given).errors, wanted)
-    room.write("many.csv", given)
-    named = wanted.replace(b"onixdesk: line", b"onixdesk: many.csv: line")
-    yield Outcome("checked: 107 mistakes", room.told("check", "many.csv").errors, named)
     room.write("cut.csv", b"Message,1,06,S,,,1,1,20250301,,\n")
     said = line("line 1: EndMessage: the message ends without it", "cut.csv: ") * MOST
     wanted = Ran(1, b"refused,malformed,2\n" * (MOST + 7), said + b"onixdesk: 7 more are malformed\n")
     yield Outcome("delivered: 107 mistakes", room.told("deliver", *["cut.csv"] * (MOST + 7)), wanted)
+
+
+# A right request of each kind and a message in both forms, from which wrong ones are made with these texts.
+REQUESTS = """Agree,north,06,4012345000009,06,5012345678900,1|Waive,north,3|AskGaps,north|AskCatalogue,north
+AskPrice,9781234567897,20250301,GB,GBP,02|AskChoice,9781234567897,20250301,GB,GBP,02,5
+AskCalendar,9781234567897,20250301,20250401,GB,GBP,02""".replace(
+    "\n", "|"
+).split(
+    "|"
+)
+RECORDS = (
+    "Product,R1,03,15,9781234567897|ProductSupply,GB,,|SupplyDetail,04,06,S,N,21,|Price,02,9.99,GBP,,,,,|EndMessage,5"
+)
+MESSAGES = [f"Message,{form},06,S,,,1,1,,02,GBP|{RECORDS}" for form in (1, 2)] * 6
+TEXTS = [
+    "",
+    "  ",
+    "x",
+    "06",
+    "6",
+    "GB",
+    "gb",
+    "GB IE",
+    "GBP",
+    "20250229",
+    "12;5",
+    "WORLD",
+    "0",
+    "1",
+    "North",
+    "\t",
+    "Price",
+]
+SAID = re.compile(r"^onixdesk: (?:-: )?line (.*)$", re.MULTILINE)
+
+
+def fuzzed_request(random: Random) -> str:
+    """A request or a message with a field put in, left out or changed, and of which a record may be moved."""
+    records = [record.split(",") for record in random.choice(REQUESTS + MESSAGES).split("|")]
+    record = random.choice(records)
+    place = random.randrange(len(record))
+    record[place : place + random.randrange(2)] = random.choices(TEXTS, k=random.randrange(2))
+    if random.random() < 0.2:
+        records.insert(random.randrange(len(records)), records.pop(random.randrange(len(records))))
+    return "".join(",".join(record or ["x"]) + "\n" for record in records)
+
+
+def fuzzed(room: Room) -> Iterator[Outcome]:
+    """Each request that is malformed has its line and a reason of its own, of `batch` and of `check` alike."""
+    for seed in range(40):
+        random = Random(seed)
+        given = "".join(fuzzed_request(random) for _ in range(60)).encode()
+        came, checked = room.told("batch", given=given), room.told("check", "-", given=given)
+        said = SAID.findall(came.errors.decode())
+        yield Outcome(f"fuzzed: the lines, {seed}", len(said), came.output.count(b"refused,malformed,"))
+        bare = [line for line in said if line.endswith("it is not allowed here")]
+        yield Outcome(f"fuzzed: the reasons, {seed}", (SAID.findall(checked.errors.decode()), bare), (said, []))

@@ -1,6 +1,6 @@
 //! The words of each reason for which something is left out, emptied, or written with a note.
 
-ghost use Rattle.std.specs.Prelude.{◌≡◌, ◌⊎◌};
+ghost use Rattle.std.specs.Prelude.{◌≡◌, ◌⊎◌, codes};
 
 use crate::shown::{push_value, push_words};
 use feed_mapping::{Foreign, ReasonKind, Wrong};
@@ -122,7 +122,7 @@ static OTHER: Told = Told {
 
 /// What is told of a reason.
 pub(crate) fn told_of(kind: ReasonKind) -> &'static Told
-    ensures { (result.now.kind ≡ kind) ⊎ (result.now ≡ OTHER) }
+    ensures { (result.now.kind ≡ kind) ⊎ (result.now.words.now ≡ codes "a text of it") }
 {
     for told in REASONS.iter() {
         if told.kind == kind {

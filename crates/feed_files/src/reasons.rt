@@ -1,7 +1,5 @@
 //! The words of each reason for which something is left out, emptied, or written with a note.
 
-ghost use Rattle.std.specs.Prelude.{◌≡◌, ◌⊎◌};
-
 use crate::shown::{push_value, push_words};
 use feed_mapping::{Foreign, ReasonKind, Wrong};
 use std::alloc::AllocError;
@@ -121,9 +119,7 @@ static OTHER: Told = Told {
 };
 
 /// What is told of a reason.
-pub(crate) fn told_of(kind: ReasonKind) -> &'static Told
-    ensures { (result.now.kind ≡ kind) ⊎ (result.now ≡ OTHER) }
-{
+pub(crate) fn told_of(kind: ReasonKind) -> &'static Told {
     for told in REASONS.iter() {
         if told.kind == kind {
             return told;

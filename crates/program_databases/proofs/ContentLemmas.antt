@@ -85,7 +85,7 @@ closed_lists g now d x left L (seen, outcomes) found are may =
 pub unclosed_lists : {D : Type 0} (g : Ghosts D) (rules : List Rule) (steps : List Step) (image : Image) (creation : Creation) (last : FileStore D g) (d : Trees) (left : Image) (L : List Request)
     → Leads rules steps (seen_image image creation) (seen_store last) → IsClean ((over_files {g = g}).view last) → (over_files {g = g}).recovers last d → ∥ HoldsDatabase left d ∥₁ → AreFilesOf image L
     → AreFilesOf left (with_answered L steps) ⊎ (((r : Request) × Contains (in_doubt L steps) r × AreFilesOf left (r ∷ with_answered L steps)) ⊎ ((has_change L steps ≡ false) × AreFilesOf left L))
-unclosed_lists g rules steps image creation last d left L leads clean may both are = go ((leads.follows (L, are, same_refl L) clean).left d may)
+unclosed_lists g rules steps image creation last d left L leads clean may both are = go ((leads.follows L (L, are, same_refl L) clean).left d may)
   where
     rows_of_left : (M : List Request) → AreRowsOf d M → AreFilesOf left M
     rows_of_left M rows = inl (d, both, rows)

@@ -147,14 +147,13 @@ fn has_world_supply(named: Option<Pair<'_>>, product: &Elements<'_>, notes: &[No
     false
 }
 
-// The supplier of a record of a SupplyDetail, by type and value, or by name where it has neither.
-fn supplier_of<'a>(record: &Record<'a>) -> [&'a str; 3] {
-    let (id_type, id_value) = (record.get(2).unwrap_or(""), record.get(3).unwrap_or(""));
-    if id_type.is_empty() && id_value.is_empty() {
-        ["", "", record.get(4).unwrap_or("")]
-    } else {
-        [id_type, id_value, ""]
-    }
+// Whether the records of two SupplyDetails are of different suppliers, by type and value, or by name
+// where neither has them.
+fn are_of_two(one: &Record<'_>, other: &Record<'_>) -> bool {
+    let is_named = one.get(2) == Some("") && one.get(3) == Some("");
+    one.get(2) != other.get(2)
+        || one.get(3) != other.get(3)
+        || (is_named && one.get(4) != other.get(4))
 }
 
 // Whether the records of a Product are of SupplyDetails of different suppliers.
@@ -163,11 +162,10 @@ fn are_of_several(written: &RecordBuffer) -> bool {
     for index in 0..written.len() {
         let record = written.record(index);
         if record.get(0) == Some("SupplyDetail") {
-            let supplier = supplier_of(&record);
-            match first {
-                None => first = Some(supplier),
-                Some(other) => {
-                    if other != supplier {
+            match &first {
+                None => first = Some(record),
+                Some(first) => {
+                    if are_of_two(first, &record) {
                         return true;
                     }
                 }

@@ -219,6 +219,11 @@ def ledgers(room: Room) -> Iterator[Outcome]:
     shop.inbox.run()
     yield Outcome("what lies in the store behind it", price(shop), "14.000")
     yield Outcome("it knows the first feed", shop.inbox.states()["1.xml"], "applied")
+    for path in *shop.inbox.ledger.parent.glob("ledger.db*"), *shop.inbox.store.iterdir():
+        path.unlink()
+    shop.inbox.run()
+    run(shop, copy, gaps=True)
+    yield Outcome("where one has no file", [*shop.inbox.states()], ["1.xml"])
 
 
 def corrections(room: Room) -> Iterator[Outcome]:

@@ -175,11 +175,12 @@ class Restore:
             self.machine.write_whole(folder / CORRECTIONS, "".join(f"{line}\n" for line in found).encode(), 0o600)
 
     def put_ledgers_back(self) -> None:
-        """Puts a ledger of the copy in place if there is none."""
+        """Puts a ledger of the copy in place if there is none, or one of an inbox that has never taken a file."""
         machine, options = self.machine, self.options
         for name in self.ledgers_of_copy():
             folder = options.inboxes / name
-            if machine.exists(folder / LEDGER) or not machine.exists(options.inboxes):
+            present = Inbox(machine, name, folder / LEDGER, options.settings)
+            if not machine.exists(options.inboxes) or machine.exists(present.file) and not present.is_unused():
                 continue
             machine.make_folder(folder)
             machine.own(folder, options.inboxes)

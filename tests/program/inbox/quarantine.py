@@ -39,11 +39,8 @@ QUARANTINED: dict[str, Feed] = {
     "new references": [replace(book, reference=f"N{book.number}") for book in BOOKS],
     "ISBNs shifted by one": [replace(book, reference=f"R{book.number + 1}") for book in BOOKS],
     "none to be had": all_with(availability="40"),
-    "without ISBNs": all_with(id_type="01"),
     "deleted by another identifier": all_with(kind="05", id_type="01"),
-    "with ISBNs that the desk lacks": [
-        replace(book, number=book.number + 500, reference=f"R{book.number}") for book in BOOKS
-    ],
+    "with other ISBNs": [replace(book, number=book.number + 500, reference=f"R{book.number}") for book in BOOKS],
 }
 
 PASSES: dict[str, Feed] = {

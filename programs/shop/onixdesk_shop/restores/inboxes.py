@@ -68,6 +68,11 @@ class Inbox:
         with closing(Ledger(self.machine, self.file)) as ledger:
             return ledger.agreement(self.series, settings.sender if settings else ("", ""))
 
+    def is_unused(self) -> bool:
+        """Whether its ledger has no file."""
+        with closing(Ledger(self.machine, self.file)) as ledger:
+            return not ledger.files("1")
+
     def goes_on(self, units: list[str]) -> bool:
         """Whether one of these units runs it."""
         return any(f"onixdesk-inbox@{self.series}{kind}" in units for kind in BEGIN)

@@ -151,7 +151,7 @@ class Restore:
         self.put_ledgers_back()
         self.note_corrections()
         work.make_ready()
-        self.note_corrections(*self.made())
+        self.note_corrections(is_made=True)
         before = work.put_in_place()
         stood = f"the one before is {before}" if machine.exists(before) else "there was none before"
         machine.tell(NOTICE, f"the desk is in place as {options.db}; {stood}")
@@ -163,26 +163,24 @@ class Restore:
         if self.units.all:
             self.units.systemctl("stop", *self.units.all)
 
-    def made(self) -> list[str]:
-        """The line of this correction. Copies up to the restored one are right if they lack what was refused."""
-        options = self.options
-        last = options.copy.name if not options.text and is_name(options.copy.name) else ""
-        is_made = options.text or self.has_refused
-        return [f"{last} {named(self.machine.now())}: {shown(options.said)}"] if is_made else []
-
-    def note_corrections(self, *made: str) -> None:
-        """Adds these, and those of the copy, which another machine lacks."""
-        machine, folder = self.machine, self.options.db.parent
-        found = dict.fromkeys([*corrections_in(machine, folder), *corrections_in(machine, self.options.copy), *made])
+    def note_corrections(self, is_made: bool = False) -> None:
+        """Adds those of the copy, which another machine lacks, and this one once `is_made`. Copies up to the restored one
+        are right if they lack what was refused."""
+        options, folder = self.options, self.options.db.parent
+        found = dict.fromkeys([*corrections_in(self.machine, folder), *corrections_in(self.machine, options.copy)])
+        if is_made and (options.text or self.has_refused):
+            last = options.copy.name if not options.text and is_name(options.copy.name) else ""
+            found[f"{last} {named(self.machine.now())}: {shown(options.said)}"] = None
         if found:
-            machine.write_whole(folder / CORRECTIONS, "".join(f"{line}\n" for line in found).encode(), 0o600)
+            self.machine.write_whole(folder / CORRECTIONS, "".join(f"{line}\n" for line in found).encode(), 0o600)
 
     def put_ledgers_back(self) -> None:
-        """Puts a ledger of the copy in place if there is none."""
+        """Puts a ledger of the copy in place if there is none, or one of an inbox that has never taken a file."""
         machine, options = self.machine, self.options
         for name in self.ledgers_of_copy():
             folder = options.inboxes / name
-            if machine.exists(folder / LEDGER) or not machine.exists(options.inboxes):
+            present = Inbox(machine, name, folder / LEDGER, options.settings)
+            if not machine.exists(options.inboxes) or machine.exists(present.file) and not present.is_unused():
                 continue
             machine.make_folder(folder)
             machine.own(folder, options.inboxes)

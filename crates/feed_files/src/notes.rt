@@ -187,13 +187,14 @@ impl<'a> Notes<'a> {
         let Some(opening) = &self.opening else {
             return Ok(0);
         };
+        let options = self.scope.options;
         let count = count_doublets(alloc, opening, written)?;
-        if count == 0 || self.scope.options.terms.is_none() {
+        if count == 0 || options.terms.is_none() {
             return Ok(count);
         }
         let choices = SupplyChoices {
-            supplier: self.scope.options.choices.supplier,
-            id_type: self.scope.options.choices.id_type,
+            supplier: options.choices.supplier,
+            id_type: options.choices.id_type,
             terms: None,
         };
         let mut fields = FieldBuffer::new(alloc);
@@ -213,22 +214,21 @@ impl<'a> Notes<'a> {
 
     // Takes notice of a Header. Without memory less is said of it and counted.
     fn notice_header(&mut self, header: &Composite<'_>) {
+        let options = self.scope.options;
         if self.opening.is_none() {
             let alloc = self.scope.alloc;
             let mut fields = FieldBuffer::new(alloc);
-            let heading = read_heading(
-                alloc,
-                &self.scope.options.choices,
-                &header.below,
-                &mut fields,
-            );
-            self.opening = heading.ok().map(|heading| heading.opening);
+            let heading = read_heading(alloc, &options.choices, &header.below, &mut fields);
+            self.opening = match heading {
+                Ok(heading) => Some(heading.opening),
+                Err(_) => None,
+            };
         }
         self.summary
             .count(Beside::Again, count_again(None, &header.below, false));
         self.notice_stranger(first_called(&header.below));
         if self.header.is_empty() {
-            if let Some(found) = malformed_field(&self.scope.options.choices, &header.below) {
+            if let Some(found) = malformed_field(&options.choices, &header.below) {
                 let _ = write!(self.header, "{:?} ", found.field);
                 let _ = push_value(&mut self.header, found.text);
             }

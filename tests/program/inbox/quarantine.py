@@ -3,7 +3,9 @@
 from collections.abc import Iterator
 from dataclasses import replace
 from typing import Any
+from unittest.mock import patch
 
+from onixdesk_shop.inbox import comparing
 from onixdesk_shop.shop_json import Shop
 from tests.program.room import Room
 from tests.running import Outcome
@@ -91,6 +93,14 @@ def few_deletions_of_many(room: Room) -> Iterator[Outcome]:
     yield Outcome("forty of three hundred", inbox.states()["second.xml"], "applied")
     inbox.take("third.xml", feed(3, [replace(book, kind="05") for book in books[40:100]]))
     yield Outcome("sixty of what is left", inbox.states()["third.xml"], "quarantined")
+
+
+def few_among_many_new(room: Room) -> Iterator[Outcome]:
+    """With a bound that the new titles alone exceed, what the desk has is looked at first."""
+    books = [*all_with(price="1000.00")[:12], *(Book(number) for number in range(100, 400))]
+    with patch.object(comparing, "MOST_ASKED", 30):
+        state = behind_a_first_feed(room, "twelve among three hundred", books)[1]
+    yield Outcome("twelve of a hundredfold among three hundred new titles", state, "quarantined")
 
 
 def other_reasons(room: Room) -> Iterator[Outcome]:

@@ -63,7 +63,7 @@ class Answers:
 
 def look_at(inbox: Inbox, feed: Feed) -> tuple[Findings, int] | None:
     """What the file would change, and of how many articles the desk has something; None if it has nothing."""
-    products, total = drawn(feed)
+    products, total = drawn(inbox, feed)
     kinds = kinds_of(inbox, products)
     known = known_of(inbox, products, kinds[0])
     if not known:
@@ -93,16 +93,19 @@ def products_in(feed: Feed) -> Iterator[Product]:
                 yield product
 
 
-def drawn(feed: Feed) -> tuple[dict[str, list[Product]], int]:
-    """The products of some references, drawn by digest, and the number of references."""
+def drawn(inbox: Inbox, feed: Feed) -> tuple[dict[str, list[Product]], int]:
+    """The products of some references, first of those that the ledger has, then by digest; and for how many of these they
+    stand."""
     lots = {}
     for product in products_in(feed):
-        lots[product.reference] = hashlib.sha256(f"{feed.file.digest} {product.reference}".encode()).hexdigest()
+        lot = hashlib.sha256(f"{feed.file.digest} {product.reference}".encode()).hexdigest()
+        lots[product.reference] = not inbox.ledger.isbns_of(product.reference), lot
     found: dict[str, list[Product]] = {reference: [] for reference in sorted(lots, key=lots.__getitem__)[:MOST_ASKED]}
     for product in products_in(feed):
         if product.reference in found:
             found[product.reference].append(product)
-    return found, len(lots)
+    had = sum(not is_new for is_new, _ in lots.values())
+    return found, max(had, len(found)) if had else len(lots)
 
 
 def fitting(products: dict[str, list[Product]]) -> dict[str, Records]:

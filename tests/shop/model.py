@@ -500,7 +500,9 @@ class Model(RuleBasedStateMachine):
                 # which another file of its number took a part over, until a person dismisses it.
                 is_again = file.why == posting.REASONS["unknown-series"] and not numbers
                 is_taken_over = inbox.ledger.has_stood(file) and len(numbers) < self.parts
-                assert is_again or is_taken_over or not self.is_had(sent, series), file
+                # Nor is one tried again since its number is waived no longer, and another file of it came.
+                was_waived = file.why.endswith("was waived")
+                assert is_again or is_taken_over or was_waived or not self.is_had(sent, series), file
 
     def is_had(self, sent: Sent, series: Series) -> bool:
         """Whether the desk has a feed of that number with the same products, by any terms."""

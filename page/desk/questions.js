@@ -113,8 +113,8 @@ async function askOnceThere(path, keys, signal, watch) {
 
 /**
  * Asks until the desk answers or refuses, or until asking again would not help: the desk lacks memory, or a question
- * got no reply twice although the desk is there, since it may end the desk. Questions without a reply are asked again
- * one after the other, so that such a one takes no other with it. While the desk is down, `watch.down` gets the words
+ * got no reply twice although the desk is there. Questions without a reply are asked again one after the other, so that
+ * such a one takes no other with it. While the desk is down, `watch.down` gets the words
  * for it; `watch.up` is called when it replies.
  */
 export async function ask(path, keys, signal, watch) {

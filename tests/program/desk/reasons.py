@@ -144,19 +144,6 @@ def ports_and_sockets(room: Room) -> Iterator[Outcome]:
         yield Outcome(f"why: a batch to {name}", came, fault("socket"))
 
 
-def of_a_socket(room: Room) -> Iterator[Outcome]:
-    """Both the sender of a batch at a socket and the desk say what is malformed: of 107 requests the first 100, and how
-    many more there are."""
-    why = "AskGaps: 0 fields behind its name, not 1: AskGaps,Series"
-    for count, more in (1, b""), (107, b"onixdesk: 7 more are malformed\n"):
-        lines = "".join(f"onixdesk: line {row}: {why}\n" for row in range(1, min(count, 100) + 1)).encode() + more
-        with serving(room, ["--db", DATABASE], 1, ["--batches", "desk.socket"]) as desk:
-            came = room.told("--batches", "desk.socket", "batch", given=b"AskGaps\n" * count)
-            yield Outcome(f"why: {count} to a socket", came, Ran(1, b"refused,malformed,1\n" * count, lines))
-            ended = desk.told()
-            yield Outcome(f"why: {count} to a socket: the desk", (ended.status, ended.errors), (0, lines))
-
-
 UNNUMBERED = b"Message,1,06,4012345000009,06,5012345678900,,,,,\nEndMessage,1\n"
 
 

@@ -108,25 +108,7 @@ RECORDS = (
     "Product,R1,03,15,9781234567897|ProductSupply,GB,,|SupplyDetail,04,06,S,N,21,|Price,02,9.99,GBP,,,,,|EndMessage,5"
 )
 MESSAGES = [f"Message,{form},06,S,,,1,1,,02,GBP|{RECORDS}" for form in (1, 2)] * 6
-TEXTS = [
-    "",
-    "  ",
-    "x",
-    "06",
-    "6",
-    "GB",
-    "gb",
-    "GB IE",
-    "GBP",
-    "20250229",
-    "12;5",
-    "WORLD",
-    "0",
-    "1",
-    "North",
-    "\t",
-    "Price",
-]
+TEXTS = "|  |x|06|6|GB|gb|GB IE|GBP|20250229|12;5|WORLD|0|1|North|\t|Price".split("|")
 SAID = re.compile(r"^onixdesk: (?:-: )?line (.*)$", re.MULTILINE)
 
 

@@ -1,5 +1,5 @@
 """The second line of a fault, which says why, by its subject: the storage, a file, an input, an output, a port, a
-socket, a rules file; and the line on a refusal, by its kind. The wording is not tested here."""
+socket, a rules file; and the line on a refusal over HTTP. The wording is not tested here."""
 
 import os
 import socket
@@ -145,13 +145,6 @@ def ports_and_sockets(room: Room) -> Iterator[Outcome]:
 
 
 UNNUMBERED = b"Message,1,06,4012345000009,06,5012345678900,,,,,\nEndMessage,1\n"
-
-
-def refusals(room: Room) -> Iterator[Outcome]:
-    """After the lines of a desk in memory one line says that there was no --db."""
-    came = room.told("batch", given=AGREEMENT + AGREEMENT.replace(b"Agree,north,", b"Agree,west,"))
-    [line] = came.errors.decode().splitlines()
-    yield Outcome("why: no --db", (came.status, line.startswith("onixdesk: without --db ")), (1, True))
 
 
 # Questions over HTTP with a bad query, by the wrong key; and a good one.

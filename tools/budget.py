@@ -26,13 +26,8 @@ SHELL, PYTHON = re.compile(r"#!.*[ /](?:ba)?sh\b"), re.compile(r"#!.*[ /]python3
 
 def names() -> list[Path]:
     """The files of the tree, without links."""
-    found = subprocess.run(
-        ["git", "ls-files", "-z"],
-        cwd=ROOT,
-        stdout=subprocess.PIPE,
-        check=True,
-    )
-    paths = (Path(name) for name in sorted(set(found.stdout.decode().split("\0"))) if name)
+    found = subprocess.check_output(["git", "ls-files", "-z"], cwd=ROOT, text=True)
+    paths = (Path(name) for name in sorted(set(found.split("\0"))) if name)
     return [path for path in paths if (ROOT / path).is_file() and not (ROOT / path).is_symlink()]
 
 

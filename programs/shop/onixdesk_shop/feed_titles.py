@@ -21,8 +21,6 @@ b035=ContributorRole b036=PersonName b037=PersonNameInverted b047=CorporateName
 publishingdetail=PublishingDetail publisher=Publisher b081=PublisherName imprint=Imprint b079=ImprintName
 """
 
-DELETION = "05"
-
 
 def isbn_of(product: Element) -> str:
     found: dict[str, str] = {}
@@ -56,7 +54,7 @@ def contributors_of(product: Element) -> str:
 def row_of(product: Element) -> list[Any]:
     publisher = text_in(product, "PublishingDetail/Publisher/PublisherName")
     imprint = text_in(product, "PublishingDetail/Imprint/ImprintName")
-    is_deletion = text_in(product, "NotificationType") == DELETION
+    is_deletion = text_in(product, "NotificationType") == "05"
     return [isbn_of(product), is_deletion, *title_of(product), contributors_of(product), publisher or imprint]
 
 

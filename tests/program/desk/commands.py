@@ -4,7 +4,7 @@ from collections.abc import Iterator
 from functools import partial
 from typing import NamedTuple
 
-from tests.program.databases import DATABASE, batch, gaps
+from tests.program.databases import DATABASE, batch
 from tests.program.messages import AGREED, AGREEMENT, applied, bare, held, priced
 from tests.program.room import UNREADABLE, Group, Ran, Room
 from tests.running import Outcome
@@ -98,13 +98,6 @@ def without_agreements(room: Room) -> Iterator[Outcome]:
         came = room.run(*words, given=UNREADABLE, is_full=True)
         wanted = Ran(3, b"", b"onixdesk: output\n")
         yield Outcome(f"without agreements, unwritten: {words}", came, wanted)
-
-
-def gaps_of_an_agreed_series(room: Room) -> Iterator[Outcome]:
-    agreed = batch(room, AGREEMENT)
-    report = b"gaps,north,first=1,next=1,greatest=,held=0,missing=0\n"
-    wanted = Ran(0, AGREED), Ran(0, report)
-    yield Outcome("the gaps of an agreed series", (agreed, gaps(room)), wanted)
 
 
 GROUPS = [Group(case.name, partial(deliver, case)) for case in DELIVERIES]

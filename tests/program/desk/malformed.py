@@ -81,21 +81,19 @@ def right_texts(room: Room) -> Iterator[Outcome]:
     yield Outcome("checked: several", several, Ran(1, b"", line(wrong, "wrong.csv: ") + line(last, "-: ")))
 
 
-def unread_texts(room: Room) -> Iterator[Outcome]:
-    """What cannot be read ends the run with 3, behind the lines of what was read."""
-    none = room.told("check", "none.csv")
-    yield Outcome("checked: no file", (none.status, none.errors.splitlines()[0]), (3, b"onixdesk: file: none.csv"))
-    yield Outcome("checked: no name", room.told("check").status, 2)
-
-
 def many_mistakes(room: Room) -> Iterator[Outcome]:
-    """Of more than 100 the others are counted."""
+    """Of more than 100 the others are counted, of `batch`, of who sends a batch, of the desk, and of `deliver`."""
     given = b"AskGaps\n" * (MOST + 7)
     lines = [
         line(f"line {row}: AskGaps: 0 fields behind its name, not 1: AskGaps,Series") for row in range(1, MOST + 1)
     ]
     wanted = b"".join(lines) + b"onixdesk: 7 more are malformed\n"
     yield Outcome("answered: 107 mistakes", room.told("batch", given=given).errors, wanted)
+    with serving(room, ["--db", DATABASE], 1, ["--batches", "desk.socket"]) as desk:
+        sent = room.told("--batches", "desk.socket", "batch", given=given)
+        yield Outcome("sent: 107 mistakes", sent, Ran(1, b"refused,malformed,1\n" * (MOST + 7), wanted))
+        ended = desk.told()
+        yield Outcome("by the desk: 107 mistakes", (ended.status, ended.errors), (0, wanted))
     room.write("cut.csv", b"Message,1,06,S,,,1,1,20250301,,\n")
     said = line("line 1: EndMessage: the message ends without it", "cut.csv: ") * MOST
     wanted = Ran(1, b"refused,malformed,2\n" * (MOST + 7), said + b"onixdesk: 7 more are malformed\n")
@@ -103,36 +101,14 @@ def many_mistakes(room: Room) -> Iterator[Outcome]:
 
 
 # A right request of each kind and a message in both forms, from which wrong ones are made with these texts.
-REQUESTS = """Agree,north,06,4012345000009,06,5012345678900,1|Waive,north,3|AskGaps,north|AskCatalogue,north
-AskPrice,9781234567897,20250301,GB,GBP,02|AskChoice,9781234567897,20250301,GB,GBP,02,5
-AskCalendar,9781234567897,20250301,20250401,GB,GBP,02""".replace(
-    "\n", "|"
-).split(
-    "|"
-)
+REQUESTS = """Agree,north,06,4012345000009,06,5012345678900,1 Waive,north,3 AskGaps,north AskCatalogue,north
+AskPrice,9781234567897,20250301,GB,GBP,02 AskChoice,9781234567897,20250301,GB,GBP,02,5
+AskCalendar,9781234567897,20250301,20250401,GB,GBP,02""".split()
 RECORDS = (
     "Product,R1,03,15,9781234567897|ProductSupply,GB,,|SupplyDetail,04,06,S,N,21,|Price,02,9.99,GBP,,,,,|EndMessage,5"
 )
 MESSAGES = [f"Message,{form},06,S,,,1,1,,02,GBP|{RECORDS}" for form in (1, 2)] * 6
-TEXTS = [
-    "",
-    "  ",
-    "x",
-    "06",
-    "6",
-    "GB",
-    "gb",
-    "GB IE",
-    "GBP",
-    "20250229",
-    "12;5",
-    "WORLD",
-    "0",
-    "1",
-    "North",
-    "\t",
-    "Price",
-]
+TEXTS = "|  |x|06|6|GB|gb|GB IE|GBP|20250229|12;5|WORLD|0|1|North|\t|Price".split("|")
 SAID = re.compile(r"^onixdesk: (?:-: )?line (.*)$", re.MULTILINE)
 
 

@@ -1,5 +1,5 @@
 """The second line of a fault, which says why, by its subject: the storage, a file, an input, an output, a port, a
-socket, a rules file; and the line on a refusal, by its kind. The wording is not tested here."""
+socket, a rules file; and the line on a refusal over HTTP. The wording is not tested here."""
 
 import os
 import socket
@@ -144,27 +144,7 @@ def ports_and_sockets(room: Room) -> Iterator[Outcome]:
         yield Outcome(f"why: a batch to {name}", came, fault("socket"))
 
 
-def of_a_socket(room: Room) -> Iterator[Outcome]:
-    """Both the sender of a batch at a socket and the desk say what is malformed: of 107 requests the first 100, and how
-    many more there are."""
-    why = "AskGaps: 0 fields behind its name, not 1: AskGaps,Series"
-    for count, more in (1, b""), (107, b"onixdesk: 7 more are malformed\n"):
-        lines = "".join(f"onixdesk: line {row}: {why}\n" for row in range(1, min(count, 100) + 1)).encode() + more
-        with serving(room, ["--db", DATABASE], 1, ["--batches", "desk.socket"]) as desk:
-            came = room.told("--batches", "desk.socket", "batch", given=b"AskGaps\n" * count)
-            yield Outcome(f"why: {count} to a socket", came, Ran(1, b"refused,malformed,1\n" * count, lines))
-            ended = desk.told()
-            yield Outcome(f"why: {count} to a socket: the desk", (ended.status, ended.errors), (0, lines))
-
-
 UNNUMBERED = b"Message,1,06,4012345000009,06,5012345678900,,,,,\nEndMessage,1\n"
-
-
-def refusals(room: Room) -> Iterator[Outcome]:
-    """After the lines of a desk in memory one line says that there was no --db."""
-    came = room.told("batch", given=AGREEMENT + AGREEMENT.replace(b"Agree,north,", b"Agree,west,"))
-    [line] = came.errors.decode().splitlines()
-    yield Outcome("why: no --db", (came.status, line.startswith("onixdesk: without --db ")), (1, True))
 
 
 # Questions over HTTP with a bad query, by the wrong key; and a good one.

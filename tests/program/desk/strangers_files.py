@@ -1,7 +1,6 @@
 """Files that are no desk and no database: each command refuses them, and leaves them byte for byte as they were. It
 also refuses a desk with a damaged page, which has to be restored and not begun anew."""
 
-import random
 from collections.abc import Callable, Iterator
 from functools import partial
 
@@ -17,10 +16,6 @@ PAGE = 4096
 MESSAGE = "message.csv"
 
 COMMANDS = ["batch", f"deliver {MESSAGE}", "gaps north", "serve --port 1 --requests 1", "migrate"]
-
-
-def random_bytes(room: Room) -> bytes:
-    return random.Random(52).randbytes(20_000)
 
 
 def letter(room: Room) -> bytes:
@@ -41,7 +36,6 @@ def desk_without_page(number: int, room: Room) -> bytes:
 
 # The contents of each file. The first page of a database has its header; the second belongs to a table.
 FILES = {
-    "random bytes": random_bytes,
     "a letter": letter,
     "a zero": zero_byte,
     "a desk without its first page": partial(desk_without_page, 1),

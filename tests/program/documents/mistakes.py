@@ -13,7 +13,6 @@ from tests.running import Outcome
 from tools.root import ROOT
 
 PAGE = "docs/MISTAKES.md"
-CORRECT = "/usr/share/onixdesk/correct.sh"
 
 AGREEMENT = "Agree,north,06,{},06,5012345678900,{}\n"
 AGREED = AGREEMENT.format("4012345000009", 1)

@@ -82,9 +82,6 @@ def look_at(inbox: Inbox, feed: Feed) -> tuple[Findings, int] | None:
     return findings, len(known) * total // len(products)
 
 
-# Which references are compared
-
-
 def products_in(feed: Feed) -> Iterator[Product]:
     """The products that change what the desk finds; an update without supplies does not."""
     for message in feed.messages:
@@ -147,9 +144,6 @@ def kinds_of(inbox: Inbox, products: dict[str, list[Product]]) -> list[Kind]:
     copies = [*(shop.quantities[:3] if shop else [1]), *(number for number, _ in quantities.most_common(1))]
     kinds = [Kind(place, *pair, number) for pair in pairs for place in places for number in copies]
     return list(dict.fromkeys(kinds)) or [Kind("GB", "GBP", "02", 1)]
-
-
-# What both desks answer
 
 
 def ask(inbox: Inbox, questions: list[str]) -> Iterator[Records]:

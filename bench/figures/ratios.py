@@ -3,7 +3,7 @@ same bytes. Rows and answers are compared before a time is taken."""
 
 import shutil
 import sqlite3
-from collections.abc import Iterable, Iterator
+from collections.abc import Iterable, Iterator, Sequence
 from contextlib import closing
 from pathlib import Path
 from typing import Any, NamedTuple
@@ -43,7 +43,9 @@ class Figure(NamedTuple):
         return f"| {self.what} | {self.value:.3g} ({self.made_of}) | {target}{missed} |"
 
 
-def to(what: str, one: Taken, other: Taken, target: float = 0) -> Figure:
+def to(what: str, both: Sequence[Taken], target: float = 0) -> Figure:
+    """One to the other."""
+    one, other = both
     of_both = f"{one.microseconds / 1_000:,.0f} to {other.microseconds / 1_000:,.0f} ms"
     return Figure(what, one.microseconds / other.microseconds, of_both, target)
 
@@ -103,9 +105,9 @@ def messages_in_a_file(bench: Bench) -> Iterator[Figure]:
     taken(alone.run)
     if rows(bare) != rows(bench.file):
         raise BenchmarkFault("SQLite alone put other rows than the desk")
-    one, other = least_of([Work(bench.batch(given, True), bench.batch(NOTHING, True), bench.made), alone])
+    both = least_of([Work(bench.batch(given, True), bench.batch(NOTHING, True), bench.made), alone])
     what = f"{count} messages of {PRODUCTS} products with a price each, into a new file"
-    yield to(f"{what}, to SQLite alone writing their rows", one, other, 4.6)
+    yield to(f"{what}, to SQLite alone writing their rows", both, 4.6)
 
 
 def messages_in_memory(bench: Bench) -> Iterator[Figure]:
@@ -117,10 +119,10 @@ def messages_in_memory(bench: Bench) -> Iterator[Figure]:
     for refusal, last in ("refused", "AskGaps,west\n"), ("malformed", "AskGaps\n"):
         wrong = bench.text("wrong", [given.read_bytes(), last])
         refused = work._replace(run=bench.batch(wrong)._replace(status=1))
-        yield to(f"{what}, with one {refusal} request behind them, to without it", *least_of([refused, work]), 1.05)
+        yield to(f"{what}, with one {refusal} request behind them, to without it", least_of([refused, work]), 1.05)
     records = tools.records(bench.folder)
     alone = Work(Run([records, given]), Run([records, NOTHING]))
-    yield to(f"{what}, to `csv` alone reading them", *least_of([work, alone]))
+    yield to(f"{what}, to `csv` alone reading them", least_of([work, alone]))
 
 
 def catalogue(records: int, *questions: str) -> Iterator[str]:
@@ -145,7 +147,7 @@ def questions_for_prices(bench: Bench) -> Iterator[Figure]:
     if offers_in(output_of(alone.run)) != offers_in(output_of(asked)):
         raise BenchmarkFault("SQLite alone gave other answers than the desk")
     what = f"{count:,} price questions about {size:,} records in memory, to SQLite alone in memory"
-    yield to(what, *least_of([Work(asked, plain), alone]), 1.5)
+    yield to(what, least_of([Work(asked, plain), alone]), 1.5)
 
 
 def questions_for_catalogues(bench: Bench) -> Iterator[Figure]:
@@ -157,7 +159,7 @@ def questions_for_catalogues(bench: Bench) -> Iterator[Figure]:
     answer = bench.text("answer", [answers[answers.index(b"catalogue,") :]])
     alone = Work(Run([records, answer, str(count)]), Run([records, answer, "0"]))
     what = f"{count} catalogues of {size:,} records answered, to `csv` alone writing their records"
-    yield to(what, *least_of([Work(asked, plain), alone]), 6)
+    yield to(what, least_of([Work(asked, plain), alone]), 6)
 
 
 def pieces(name: str, element: bytes, reference: bytes, size: int) -> Iterator[bytes]:
@@ -186,4 +188,4 @@ def conversion(name: str, bench: Bench) -> Iterator[Figure]:
     yield Figure("peak memory of that, MB", plain.memory / 1e6, "peak", 16)
     records = tools.records(bench.folder)
     alone = Work(Run([records, answer]), Run([records, NOTHING]))
-    yield to("that conversion, to `csv` alone reading the records that it makes", plain, *least_of([alone]))
+    yield to("that conversion, to `csv` alone reading the records that it makes", [plain, *least_of([alone])])

@@ -38,7 +38,8 @@ pub fn read_catalogue<S: Alter>(
     work: &mut Work<'_, S>,
     series: &SeriesName,
 ) -> Result<Catalogue, StoreFault>
-    ensures catalogue { Does S.Store (KeepsRows (IsCatalogueOf series.now)) work.old work.new result }
+    ensures catalogue { Does S.Store (KeepsRows (IsCatalogueOf series.now))
+        work.old work.new result }
 {
     let records = work.record_rows(series)?;
     read_records(alloc, work, records.as_slice())

@@ -203,7 +203,8 @@ pub fn apply_message<S: Alter>(
     series: &SeriesName,
     contents: &Contents,
 ) -> Result<Effect, StoreFault>
-    ensures applied { Does S.Store (AppliesMessage series.now contents.now) work.old work.new result }
+    ensures applied { Does S.Store (AppliesMessage series.now contents.now)
+        work.old work.new result }
 {
     contents.can_be_read_back();
     let products = contents.products();

@@ -1,13 +1,13 @@
 //! A Product by itself: its reference, its NotificationType and its identifiers.
 
-ghost use Rattle.std.specs.Prelude.{◌≡◌, ◌++◌, ◌<◌, ◌||◌, ℕ, List, IfOk, OnOk, Some, map, option_map};
+ghost use Rattle.std.specs.Prelude.{◌≡◌, ◌++◌, ◌<◌, ◌||◌, [], ℕ, List, IfOk, OnOk, Some, map, option_map};
 ghost use Rattle.std.specs.Char.{is_ascii_digit};
 ghost use Rattle.std.specs.List.{list_all};
 ghost use Rattle.std.specs.Str.{chars};
 ghost use Rattle.feed_mapping.specs.Notes.{note_views, reason_view};
 ghost use Rattle.feed_mapping.specs.PartyViews.{pair_view};
 ghost use Rattle.feed_mapping.specs.PriceViews.{reason_read};
-ghost use Rattle.feed_mapping.specs.Products.{MayBe, graded, digit_byte, dropping, has_isbn, is_mark, identifier_note, identifier_notes, is_deletion, is_gtin_type, is_isbn, is_strange, is_thirteen, notification_in, or_reference, own_reasons, pair_reason, product_record, reference_in, right_pair, right_pairs, thirteen_of, type_of, value_of, without_marks, written_value};
+ghost use Rattle.feed_mapping.specs.Products.{MayBe, are_some, graded, digit_byte, dropping, has_isbn, is_mark, identifier_note, identifier_notes, is_deletion, is_gtin_type, is_isbn, is_strange, is_thirteen, notification_in, or_reference, own_reasons, pair_reason, product_record, reference_in, right_pair, right_pairs, thirteen_of, type_of, value_of, without_marks, written_value};
 ghost use Rattle.feed_mapping.specs.Records.{first_some, unless};
 ghost use Rattle.feed_mapping.specs.declared.notes.Wrong.TheVariants as bad;
 
@@ -338,6 +338,15 @@ fn is_strange(supplier: Option<Pair<'_>>, elements: &Elements<'_>) -> bool
     }
 }
 
+// That no identifier is left.
+fn left_reason(pairs: &FieldBuffer, elements: &Elements<'_>) -> Option<Reason<'static>>
+    ensures { reason_read result
+        ≡ unless (is_deletion elements.now || are_some pairs.now) bad.NoIdentifierLeft [] }
+{
+    let are_left = is_deletion(elements) || pairs.len() > 0;
+    unless(are_left, Wrong::NoIdentifierLeft, b"")
+}
+
 /// Why a Product with these types and values is emptied, whatever its supplies are.
 pub(crate) fn own_reason<'a>(
     supplier: Option<Pair<'_>>,
@@ -348,10 +357,9 @@ pub(crate) fn own_reason<'a>(
         (own_reasons (option_map pair_view supplier.entry) pairs.now elements.now) }
 {
     let text = notification_in(elements);
-    let are_left = is_deletion(elements) || pairs.len() > 0;
     first_of(&[
         unless(parsed_code(text).is_some(), Wrong::NotificationType, text),
-        unless(are_left, Wrong::NoIdentifierLeft, b""),
+        left_reason(pairs, elements),
         unless(!is_strange(supplier, elements), Wrong::OtherNamespace, b""),
     ])
 }

@@ -13,20 +13,25 @@ use crate::parties::Pair;
 use crate::products::is_deletion;
 use feed_outline::Elements;
 
-// Whether a ProductSupply has a SupplyDetail of another than the supplier that is named, or else, of
-// that one.
+// Whether a SupplyDetail is of another than the supplier that is named, or else, of that one.
+fn is_such(named: Pair<'_>, of_other: bool, detail: &Elements<'_>) -> bool
+    ensures { result ≡ is_such (pair_view named.entry) of_other detail.now }
+{
+    if of_other {
+        is_of_other(Some(named), detail)
+    } else {
+        has_pair(SUPPLIER, named, &elements_in(b"Supplier", detail))
+    }
+}
+
+// Whether a ProductSupply has such a SupplyDetail.
 fn is_in(named: Pair<'_>, of_other: bool, supply: &Elements<'_>) -> bool
     ensures { result ≡ list_any (λ d. is_such (pair_view named.entry) of_other d.below)
         (each_at "SupplyDetail" supply.now) }
 {
     let mut rest = supply.copy();
     while let Some((detail, behind)) = next_composite(b"SupplyDetail", &rest) {
-        let is_such = if of_other {
-            is_of_other(Some(named), &detail.below)
-        } else {
-            has_pair(SUPPLIER, named, &elements_in(b"Supplier", &detail.below))
-        };
-        if is_such {
+        if is_such(named, of_other, &detail.below) {
             return true;
         }
         rest = behind;

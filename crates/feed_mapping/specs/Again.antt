@@ -1,6 +1,6 @@
 -- Elements that come again though they do not repeat.
-use Rattle.std.specs.Prelude.{ℕ, Bool, not, ◌&&◌, List, [], ◌∷◌, Option, Some, None}
-use Rattle.std.specs.Prelude.{if◌then◌else◌, codes, is_some}
+use Rattle.std.specs.Prelude.{ℕ, Bool, not, ◌&&◌, List, [], ◌∷◌, Option, Some, None, if◌then◌else◌}
+use Rattle.std.specs.Prelude.{codes, is_some}
 use Rattle.std.specs.List.{list_any}
 use Rattle.std.specs.Option.{option_or}
 use Rattle.std.specs.Str.{bytes_eq}
@@ -17,24 +17,14 @@ is_repeatable name =
     (codes "PriceCondition" ∷ codes "PriceConstraint" ∷ codes "PriceDate" ∷ codes "Discount"
     ∷ codes "DiscountCoded" ∷ stranger ∷ codes "Tax" ∷ stranger_apart ∷ [])
 
--- what stands in it is looked at with its date, or by the terms of the shop
-abbrev pub is_read_apart : List ℕ → Bool
-is_read_apart name =
-    list_any (bytes_eq name)
-    (codes "PriceDate" ∷ codes "Discount" ∷ codes "DiscountCoded" ∷ codes "Tax" ∷ [])
-
--- a composite that does not repeat
-abbrev pub is_composite : List ℕ → Bool
-is_composite name =
-    list_any (bytes_eq name)
-    (codes "Territory" ∷ codes "PriceCoded" ∷ codes "EpubLicense" ∷ codes "EpubLicenseWithDate"
-    ∷ [])
-
 -- whether an element of this name and text comes again among these: a composite, empty or not; and
 -- of one of text, which has a text, another with one
 abbrev pub comes_again : List ℕ → List ℕ → Nodes → Bool
 comes_again name text rest =
-    if is_composite name then is_some (first (composites name rest))
+    if list_any (bytes_eq name)
+    (codes "Territory" ∷ codes "PriceCoded" ∷ codes "EpubLicense" ∷ codes "EpubLicenseWithDate"
+    ∷ [])
+    then is_some (first (composites name rest))
     else is_filled text && is_some (text_in name rest)
 
 -- whether an element of this name and text does not repeat, and comes again among these
@@ -42,10 +32,11 @@ abbrev pub is_again : List ℕ → List ℕ → Nodes → Bool
 is_again name text rest = not (is_repeatable name) && comes_again name text rest
 
 -- The name of the first element that comes again though it does not repeat, at whatever depth; what
--- stands in a PriceDate is looked at with its date.
+-- stands in a PriceDate is looked at with its date, and what the terms of the shop read by these.
 abbrev pub again_in : Nodes → Option (List ℕ)
 again_in no_nodes = None
 again_in (node n tag text below rest) =
     if is_again n text rest then Some n
-    else option_or (if is_read_apart n then None else again_in below)
-    (again_in rest)
+    else option_or (if list_any (bytes_eq n)
+    (codes "PriceDate" ∷ codes "Discount" ∷ codes "DiscountCoded" ∷ codes "Tax" ∷ [])
+    then None else again_in below) (again_in rest)

@@ -17,7 +17,6 @@ use Rattle.feed_mapping.specs.Notes.{Reason, foreign, is_wrong, wrong}
 use Rattle.feed_mapping.specs.Records.{first_some, parsed_term}
 use Rattle.feed_mapping.specs.declared.dates.Days.{Days}
 use Rattle.feed_mapping.specs.declared.notes.Foreign.TheVariants.{DateFormat}
-use Rattle.feed_mapping.specs.declared.notes.Wrong.{Wrong}
 use Rattle.feed_mapping.specs.declared.notes.Wrong.TheVariants.{ComesAgain, DateRole, Day, Month}
 use Rattle.feed_mapping.specs.declared.notes.Wrong.TheVariants.{NoDate, NotTwoDays, OtherDay, Year}
 
@@ -61,31 +60,22 @@ span first lasts digits = do
   b ← first_some (map (λ last. parsed_day (digits ++ codes last)) lasts)
   Some (days (Some a) (Some b))
 
-module _ (text : List ℕ) where
-  -- a day, behind which nothing stands or a time, as the first and the last
-  abbrev pub in_day : Option Days
-  in_day = digits_in is_time ("YYYYMMDD" ∷ "YYYY-MM-DD" ∷ []) text >>= span "" ("" ∷ [])
-
-  -- the first and the last day of a month
-  abbrev pub in_month : Option Days
-  in_month =
-      digits_in (bytes_eq []) ("YYYYMM" ∷ "YYYY-MM" ∷ []) text
-      >>= span "01" ("31" ∷ "30" ∷ "29" ∷ "28" ∷ [])
-
-  -- the first and the last day of a year
-  abbrev pub in_year : Option Days
-  in_year = digits_in (bytes_eq []) ("YYYY" ∷ []) text >>= span "0101" ("1231" ∷ [])
-
 -- the formats of a day (00, and with a time 13 and 14), of a month and of a year
 abbrev pub formats : List (List ℕ)
 formats = codes "00" ∷ codes "13" ∷ codes "14" ∷ codes "01" ∷ codes "05" ∷ []
 
--- the first and the last day of a text of one of these formats
-abbrev pub in_format : List ℕ → List ℕ → Option Days
-in_format format text =
-    if bytes_eq format (codes "01") then in_month text
-    else if bytes_eq format (codes "05") then in_year text
-    else in_day text
+-- The first and the last day of a text of one of these formats: of a month, of a year, or of a day,
+-- behind which nothing stands or a time
+abbrev pub parsed_days : List ℕ → List ℕ → Dated
+parsed_days format text =
+    if bytes_eq format (codes "01")
+    then ok_or (option_and_then (span "01" ("31" ∷ "30" ∷ "29" ∷ "28" ∷ []))
+    (digits_in (bytes_eq []) ("YYYYMM" ∷ "YYYY-MM" ∷ []) text)) (wrong Month text)
+    else if bytes_eq format (codes "05")
+    then ok_or (option_and_then (span "0101" ("1231" ∷ []))
+    (digits_in (bytes_eq []) ("YYYY" ∷ []) text)) (wrong Year text)
+    else ok_or (option_and_then (span "" ("" ∷ []))
+    (digits_in is_time ("YYYYMMDD" ∷ "YYYY-MM-DD" ∷ []) text)) (wrong Day text)
 
 -- the two days of a date of 16 bytes
 unfoldable pub two_days : List ℕ → Dated
@@ -103,17 +93,6 @@ two_days text =
 abbrev pub unless_again : Option (List ℕ) → Dated → Dated
 unless_again (Some name) (Ok d) = Err (wrong ComesAgain name)
 unless_again other dated = dated
-
--- what a text of one of these formats is none of
-abbrev pub wrong_date : List ℕ → Wrong
-wrong_date format =
-    if bytes_eq format (codes "01") then Month
-    else if bytes_eq format (codes "05") then Year
-    else Day
-
--- the days of a text of this format
-abbrev pub parsed_days : List ℕ → List ℕ → Dated
-parsed_days format text = ok_or (in_format format text) (wrong (wrong_date format) text)
 
 module _ (nodes : Nodes) where
   -- the Date of a PriceDate: of several the first one that has a text

@@ -1,6 +1,6 @@
 -- A SupplyDetail: the records that are written of it and of its Prices.
-use Rattle.std.specs.Prelude.{ℕ, List, [], ◌∷◌, ◌++◌, Option, Some, None}
-use Rattle.std.specs.Prelude.{if◌then◌else◌, codes, is_some, map}
+use Rattle.std.specs.Prelude.{ℕ, List, [], ◌∷◌, ◌++◌, Option, Some, None, if◌then◌else◌}
+use Rattle.std.specs.Prelude.{codes, is_some, map}
 use Rattle.std.specs.Prelude.{option_and_then, option_map}
 use Rattle.std.specs.Option.{option_or, unwrap_or}
 use Rattle.feed_xml.specs.Grammar.{is_filled}
@@ -55,12 +55,6 @@ module _ (nodes : Nodes) where
       first_with_text nodes (codes "SupplyToCountry" ∷ codes "SupplyToRegion"
       ∷ codes "SupplyToCountryExcluded" ∷ codes "SupplyToTerritory" ∷ [])
 
-  -- the OrderQuantityMinimum, where it is a quantity
-  abbrev pub default_minimum : Option (List ℕ)
-  default_minimum =
-      option_filter (λ text. is_some (parsed_term quantity_of text))
-      (some_at "OrderQuantityMinimum" nodes)
-
 -- an identifier has a type, and a value that the desk takes; without one there is a name
 abbrev pub identifier_reasons : Pair → List ℕ → Reasons
 identifier_reasons i name =
@@ -113,12 +107,14 @@ first_detail_reason supplier preferred nodes =
     option_and_then (λ c. detail_reason preferred c.below) (first (own_details supplier nodes))
 
 module _ (o : Opening) where
-  -- the context of the Prices of a SupplyDetail, by what closes them, and what goes before them
+  -- the context of the Prices of a SupplyDetail, by what closes them, and what goes before them; its
+  -- OrderQuantityMinimum counts where it is a quantity
   abbrev pub context_by : List Kind → List First → Nodes → PriceContext
   context_by closed firsts nodes = record {
     opening = o;
     is_unpriced = is_some (unpriced_in nodes);
-    minimum = default_minimum nodes;
+    minimum = option_filter (λ text. is_some (parsed_term quantity_of text))
+        (some_at "OrderQuantityMinimum" nodes);
     closed = closed;
     firsts = firsts;
   }

@@ -1,8 +1,8 @@
 -- The Header: what the first record of each part of the message says, or why the message is
 -- refused.
-use Rattle.std.specs.Prelude.{ℕ, Bool, ◌+◌, ◌-◌, ◌*◌, ◌==◌, List, [], ◌∷◌, Option, Some, None}
+use Rattle.std.specs.Prelude.{ℕ, Bool, ◌+◌, ◌-◌, ◌*◌, ◌==◌, List, [], ◌∷◌, Option, Some, None, if◌then◌else◌}
 use Rattle.std.specs.Prelude.{find, is_some}
-use Rattle.std.specs.Prelude.{Result, Ok, Err, if◌then◌else◌, codes, decimal, option_map}
+use Rattle.std.specs.Prelude.{Result, Ok, Err, codes, decimal, option_map}
 use Rattle.std.specs.List.{list_all, list_any}
 use Rattle.std.specs.Option.{ok_or, option_map_or}
 use Rattle.std.specs.Str.{is_utf8}
@@ -52,15 +52,12 @@ given_or None own = own
 module _ (c : Choices) where
   -- the type and the value of the sender: where the Header has a whole identifier, or the caller
   -- gives none, the one that is chosen
-  abbrev pub sender_of : List Pair → Result Pair HeaderRefusal
-  sender_of ids =
-      let named = option_map_or if_whole (chosen c.id_type ids) (Err why.NoSender) in
-      if list_any is_whole ids then named else given_or c.sender named
-
   abbrev pub sender_in : Nodes → Result Pair HeaderRefusal
   sender_in nodes =
-      sender_of
-      (identifiers_in (codes "SenderIdentifier") (codes "SenderIDType") (below_at "Sender" nodes))
+      let ids = identifiers_in (codes "SenderIdentifier") (codes "SenderIDType")
+      (below_at "Sender" nodes) in
+      let named = option_map_or if_whole (chosen c.id_type ids) (Err why.NoSender) in
+      if list_any is_whole ids then named else given_or c.sender named
 
 -- ---- addressee
 

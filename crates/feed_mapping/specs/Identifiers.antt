@@ -6,14 +6,12 @@ use Rattle.feed_mapping.specs.Elements.{composites, first, text_at, text_or_empt
 use Rattle.feed_mapping.specs.Parties.{Pair, is_there, pair}
 use Rattle.feed_outline.specs.Nodes.{Nodes}
 
--- what stands in an identifier whose type has this name
-abbrev pub identifier_in : List ℕ → Nodes → Pair
-identifier_in type_name nodes = pair (text_or_empty type_name nodes) (text_at "IDValue" nodes)
-
 -- the identifiers of these names in a composite, in order
 abbrev pub identifiers_in : List ℕ → List ℕ → Nodes → List Pair
 identifiers_in name type_name nodes =
-    filter is_there (map (λ c. identifier_in type_name c.below) (composites name nodes))
+    filter is_there
+    (map (λ c. pair (text_or_empty type_name c.below) (text_at "IDValue" c.below))
+    (composites name nodes))
 
 -- the identifier that is written: the first of the preferred type, else the first
 abbrev pub chosen : List ℕ → List Pair → Option Pair

@@ -1,6 +1,6 @@
 -- The Markets of a ProductSupply, as one.
-use Rattle.std.specs.Prelude.{◌≡◌, Bool, true, false, ◌==◌, List, [], ◌∷◌, length, Option, Some}
-use Rattle.std.specs.Prelude.{None, is_none, is_some, if◌then◌else◌, codes, map, not, option_map}
+use Rattle.std.specs.Prelude.{◌≡◌, Bool, true, false, ◌==◌, List, [], ◌∷◌, length, Option, Some, if◌then◌else◌}
+use Rattle.std.specs.Prelude.{None, is_none, is_some, codes, map, not, option_map}
 use Rattle.std.specs.Prelude.{option_and_then, option_to_list, Result, Ok, Err}
 use Rattle.std.specs.List.{flat_map, list_any}
 use Rattle.std.specs.Option.{option_map_or, option_or}
@@ -87,15 +87,12 @@ kept_fields first territories =
     if length territories == 1 then Some (area_fields first)
     else option_map_or union_fields (union territories) (Some (area_fields first))
 
--- a ProductSupply whose Markets are all left out
-abbrev pub no_market : Bool → Reason
-no_market some_foreign =
-    if some_foreign then foreign other.NoMarketLeft [] else wrong bad.NoMarketLeft []
-
 -- of what is found of Markets: the first that is left, where they hold that are left, whether
 -- another is left out as foreign, and the notes on them
 abbrev pub kept_outcome : Option Area → List Territory → Bool → List Note → Outcome
-kept_outcome None territories some_foreign notes = left_out (no_market some_foreign)
+kept_outcome None territories some_foreign notes =
+    left_out
+    (if some_foreign then foreign other.NoMarketLeft [] else wrong bad.NoMarketLeft [])
 kept_outcome (Some first) territories some_foreign notes =
     option_map_or (λ fields. written (supply_record fields ∷ []) notes)
     (kept_fields first territories) (left_out (foreign other.LongMarkets []))

@@ -1,9 +1,9 @@
 -- The narrower territory before the world: a Price for countries goes before the Prices beside it
 -- that are alike in all else, and hold in the world.
-use Rattle.std.specs.Prelude.{ℕ, Bool, true, false, not, ◌&&◌, ◌==◌, List, [], ◌∷◌, ◌++◌}
-use Rattle.std.specs.Prelude.{Option, Some, None, if◌then◌else◌, filter, fold, length, nat_lt}
+use Rattle.std.specs.Prelude.{ℕ, Bool, not, ◌&&◌, ◌||◌, ◌==◌, is_none, List, [], ◌∷◌, ◌++◌, if◌then◌else◌}
+use Rattle.std.specs.Prelude.{Option, Some, None, filter, fold, length, nat_lt}
 use Rattle.std.specs.List.{filter_map, flat_map, list_any}
-use Rattle.std.specs.Option.{option_eq, option_map_or}
+use Rattle.std.specs.Option.{option_eq}
 use Rattle.std.specs.Ordering.{int_eq}
 use Rattle.std.specs.Str.{bytes_eq}
 use Rattle.onix_terms.specs.Code.{country_of}
@@ -12,17 +12,14 @@ use Rattle.feed_mapping.specs.Records.{parsed_term}
 use Rattle.feed_mapping.specs.declared.narrower.Alike.{Alike}
 use Rattle.feed_mapping.specs.declared.narrower.First.{First}
 
--- a Price that says no type or currency is alike in any
-abbrev pub may_be : Option (List ℕ) → Option (List ℕ) → Bool
-may_be None other = true
-may_be (Some code) other = option_map_or (bytes_eq code) other false
-
 -- whether a Price that goes before others is alike one of them: in type and currency, in the number
--- of copies, and in the first and the last day
+-- of copies, and in the first and the last day; one that says no type or currency is alike in any
 abbrev pub is_alike : Alike → Alike → Bool
 is_alike first other =
-    (may_be first.kind.price_type other.kind.price_type
-    && may_be first.kind.currency other.kind.currency)
+    ((is_none first.kind.price_type
+    || option_eq bytes_eq first.kind.price_type other.kind.price_type)
+    && (is_none first.kind.currency
+    || option_eq bytes_eq first.kind.currency other.kind.currency))
     && ((first.copies == other.copies)
     && (option_eq int_eq first.days.first other.days.first
     && option_eq int_eq first.days.last other.days.last))

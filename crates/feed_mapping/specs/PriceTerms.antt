@@ -1,6 +1,6 @@
 -- What the terms of the shop see of the Prices of a SupplyDetail, and what comes of them by these.
-use Rattle.std.specs.Prelude.{◌≡◌, ℕ, Bool, false, ◌&&◌, ◌||◌, List, [], ◌∷◌, ◌++◌, Option, Some, None}
-use Rattle.std.specs.Prelude.{if◌then◌else◌, codes, length, map, nat_lt, replicate, drop, take}
+use Rattle.std.specs.Prelude.{◌≡◌, ℕ, Bool, false, ◌&&◌, ◌||◌, List, [], ◌∷◌, ◌++◌, Option, Some, None, if◌then◌else◌}
+use Rattle.std.specs.Prelude.{codes, length, map, nat_lt, replicate, drop, take}
 use Rattle.std.specs.List.{flat_map, list_any}
 use Rattle.std.specs.Option.{option_to_list}
 use Rattle.std.specs.Str.{bytes_eq, is_utf8}
@@ -75,13 +75,9 @@ abbrev pub rate_by : Option (List ℕ) → Nodes → Option ℕ
 rate_by None tax = if bytes_eq (text_at "TaxRateCode" tax) (codes "Z") then Some 0 else None
 rate_by (Some percent) tax = parsed_term feed_percent_of percent
 
--- the rate that a Tax says
-abbrev pub rate_in : Nodes → Option ℕ
-rate_in tax = rate_by (some_at "TaxRatePercent" tax) tax
-
 -- the rate of a Tax, where there is just one
 abbrev pub tax_in : List Composite → Option ℕ
-tax_in (tax ∷ []) = rate_in tax.below
+tax_in (tax ∷ []) = rate_by (some_at "TaxRatePercent" tax.below) tax.below
 tax_in taxes = None
 
 -- the fields of a territory, each with a comma behind it
@@ -158,19 +154,12 @@ supplier_of i =
 
 -- ---- what comes of them
 
--- that no term fits a Price
-abbrev pub unfitted_notes : Element → Bool → List Note
-unfitted_notes element is = if is then note element (foreign other.NoTerm []) ∷ [] else []
-
--- that an amount of 0 is computed of it
-abbrev pub free_notes : Element → Bool → List Note
-free_notes element is = if is then note element (foreign other.NothingToPay []) ∷ [] else []
-
--- notes on a Price of which that is said, one for each computed price that is held back
+-- notes on a Price of which that is said: that no term fits it, that an amount of 0 is computed of
+-- it, and one for each computed price that is held back
 abbrev pub remark_notes : Element → Remarks → List Note
 remark_notes element r =
-    unfitted_notes element r.is_unfitted
-    ++ (free_notes element r.is_free
+    (if r.is_unfitted then note element (foreign other.NoTerm []) ∷ [] else [])
+    ++ ((if r.is_free then note element (foreign other.NothingToPay []) ∷ [] else [])
     ++ replicate r.held (note element (foreign other.HeldBack [])))
 
 -- the notes on Prices with these elements, of each of which that is said

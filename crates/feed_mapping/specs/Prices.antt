@@ -4,7 +4,7 @@ use Rattle.std.specs.Prelude.{ℕ, Bool, false, ◌&&◌, ◌||◌, nat_lt}
 use Rattle.std.specs.Prelude.{List, [], ◌∷◌, ◌++◌, Option, Some, None, if◌then◌else◌, codes}
 use Rattle.std.specs.Prelude.{find, fold, map, not, option_map, is_none, is_some}
 use Rattle.std.specs.List.{flat_map, list_any}
-use Rattle.std.specs.Option.{option_map_or, option_or, option_to_list, unwrap_or}
+use Rattle.std.specs.Option.{option_eq, option_map_or, option_or, option_to_list, unwrap_or}
 use Rattle.std.specs.Result.{result_err, result_unwrap_or}
 use Rattle.std.specs.Str.{bytes_eq}
 use Rattle.feed_outline.specs.Composites.{text_in}
@@ -212,13 +212,11 @@ kind_in o nodes = record {
       (text_at "CurrencyCode" nodes);
 }
 
--- two codes that are there and the same
-abbrev pub are_same : Option (List ℕ) → Option (List ℕ) → Bool
-are_same (Some a) (Some b) = bytes_eq a b
-are_same a b = false
-
+-- whether two kinds have a type and a currency that are the same
 abbrev pub is_kind : Kind → Kind → Bool
-is_kind a b = are_same a.price_type b.price_type && are_same a.currency b.currency
+is_kind a b =
+    (is_some a.price_type && option_eq bytes_eq a.price_type b.price_type)
+    && (is_some a.currency && option_eq bytes_eq a.currency b.currency)
 
 module _ (context : PriceContext) (nodes : Nodes) where
   -- whether the desk takes the record of a Price

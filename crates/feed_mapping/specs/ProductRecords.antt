@@ -1,13 +1,13 @@
 -- What a Product comes to: the records of it and of its supplies, and the notes on it.
-use Rattle.std.specs.Prelude.{ℕ, Bool, true, not, ◌&&◌, ◌||◌, List, [], ◌∷◌, ◌++◌}
-use Rattle.std.specs.Prelude.{Option, Some, None, if◌then◌else◌, codes, is_some}
+use Rattle.std.specs.Prelude.{ℕ, Bool, not, ◌&&◌, ◌||◌, List, [], ◌∷◌, ◌++◌, if◌then◌else◌}
+use Rattle.std.specs.Prelude.{Option, Some, None, codes, is_some}
 use Rattle.std.specs.List.{list_any}
 use Rattle.std.specs.Option.{option_map_or, option_or}
 use Rattle.std.specs.Str.{bytes_eq}
 use Rattle.feed_outline.specs.Nodes.{Nodes}
 use Rattle.onix_records.specs.declared.row.Opening.{Opening}
 use Rattle.feed_mapping.specs.Elements.{Composite, Element, each_at}
-use Rattle.feed_mapping.specs.Notes.{Note, Reason, foreign, is_wrong, note, reason_notes, wrong}
+use Rattle.feed_mapping.specs.Notes.{Note, Reason, foreign, is_wrong, note, wrong}
 use Rattle.feed_mapping.specs.OtherSuppliers.{is_of_others}
 use Rattle.feed_mapping.specs.Outcomes.{all_notes, all_records}
 use Rattle.feed_mapping.specs.Parties.{Pair}
@@ -35,29 +35,20 @@ module _ (nodes : Nodes) where
   abbrev pub supplies_in : List Composite
   supplies_in = if is_deletion nodes then [] else each_at "ProductSupply" nodes
 
-  -- that the desk will not find a product by an ISBN
-  abbrev pub isbn_reason : Option Reason
-  isbn_reason =
-      if is_deletion nodes || has_isbn nodes then None else Some (foreign other.NoIsbn [])
-
-  -- that the desk ignores a product of this NotificationType
-  abbrev pub ignored_reason : Option Reason
-  ignored_reason =
-      if is_followed (notification_in nodes) then None
-      else Some (foreign other.Ignored (notification_in nodes))
-
 module _ (supplier : Option Pair) (nodes : Nodes) where
   -- of other suppliers alone: it has SupplyDetails, and all of them are of others
   abbrev pub is_alone : Bool
   is_alone = is_some supplier && not (is_deletion nodes) && is_of_others supplier nodes
 
-  abbrev pub others_reason : Option Reason
-  others_reason = if is_alone then Some (foreign other.OfOthers []) else None
-
+  -- Notes on it, where its own fields do not empty it: that the desk will not find it by an ISBN,
+  -- that the desk ignores a product of its NotificationType, and that it is of others alone.
   abbrev pub written_notes : Element → List Note
   written_notes product =
-      reason_notes product (isbn_reason nodes) ++ reason_notes product (ignored_reason nodes)
-      ++ reason_notes product others_reason
+      (if is_deletion nodes || has_isbn nodes then []
+      else note product (foreign other.NoIsbn []) ∷ [])
+      ++ (if is_followed (notification_in nodes) then []
+      else note product (foreign other.Ignored (notification_in nodes)) ∷ [])
+      ++ (if is_alone then note product (foreign other.OfOthers []) ∷ [] else [])
 
   -- the NotificationType of one that stands: of one of other suppliers alone it is such that the
   -- desk drops the supplies that it has

@@ -1,6 +1,6 @@
 -- A Product by itself: its reference, its NotificationType and its identifiers.
-use Rattle.std.specs.Prelude.{◌≡◌, ℕ, Bool, true, false, ◌&&◌, ◌||◌, ◌==◌, not, filter}
-use Rattle.std.specs.Prelude.{List, [], ◌∷◌, Option, Some, None, if◌then◌else◌, codes, is_some}
+use Rattle.std.specs.Prelude.{◌≡◌, ℕ, Bool, true, false, ◌&&◌, ◌||◌, ◌==◌, not, filter, if◌then◌else◌}
+use Rattle.std.specs.Prelude.{List, [], ◌∷◌, Option, Some, None, codes, is_some}
 use Rattle.std.specs.List.{flat_map, list_any}
 use Rattle.std.specs.Char.{is_ascii_digit}
 use Rattle.std.specs.Option.{option_map_or}
@@ -30,19 +30,16 @@ is_gtin_type id_type = bytes_eq id_type (codes "03") || bytes_eq id_type (codes 
 abbrev pub is_thirteen : List ℕ → Bool
 is_thirteen text = is_some (isbn13_of text)
 
-module _ (c : ℕ) where
-  -- hyphens: U+002D, U+00AD, U+2010 to U+2015, U+2212
-  abbrev pub is_hyphen : Bool
-  is_hyphen = (c == 45) || ((c == 173) || (within 8208 8213 c || (c == 8722)))
-
-  -- spaces: U+0020, U+00A0, U+2009, U+202F
-  abbrev pub is_blank : Bool
-  is_blank = (c == 32) || ((c == 160) || ((c == 8201) || (c == 8239)))
+-- hyphens, U+002D, U+00AD, U+2010 to U+2015 and U+2212, and spaces, U+0020, U+00A0, U+2009, U+202F
+abbrev pub is_mark : ℕ → Bool
+is_mark c =
+    (c == 45) || ((c == 173) || (within 8208 8213 c || ((c == 8722)
+    || ((c == 32) || ((c == 160) || ((c == 8201) || (c == 8239)))))))
 
 module _ (value : List ℕ) where
   -- the characters of a value but hyphens and spaces
   abbrev pub without_marks : List ℕ
-  without_marks = filter (λ c. not (is_hyphen c || is_blank c)) (chars value)
+  without_marks = filter (λ c. not (is_mark c)) (chars value)
 
   -- the thirteen digits that are left of it so, where that is so
   abbrev pub thirteen_of : List ℕ

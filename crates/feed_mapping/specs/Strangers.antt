@@ -1,6 +1,6 @@
 -- Which strangers below a Product count: elements that are called as one that counts where they
 -- stand, and do not count.
-use Rattle.std.specs.Prelude.{ℕ, Bool, false, ◌&&◌, ◌||◌, List, Option, if◌then◌else◌, codes}
+use Rattle.std.specs.Prelude.{ℕ, Bool, false, ◌&&◌, ◌||◌, List, Option, codes, if◌then◌else◌}
 use Rattle.std.specs.Str.{bytes_eq}
 use Rattle.feed_outline.specs.Composites.{has_stranger}
 use Rattle.feed_outline.specs.Names.{stranger}
@@ -15,28 +15,18 @@ has_stranger_in name (node n tag text below rest) =
     (bytes_eq n stranger || (bytes_eq n name && has_stranger below)) || has_stranger_in name rest
 
 module _ (named : Option Pair) where
-  -- whether one counts that stands in an element of a ProductSupply: in a SupplyDetail of another
-  -- than the supplier that is named, where it might say whose it is
-  abbrev pub is_strange_in_supply : List ℕ → Nodes → Bool
-  is_strange_in_supply n below =
-      if bytes_eq n (codes "SupplyDetail") && is_of_other named below
-      then has_stranger_in (codes "Supplier") below
-      else has_stranger below
-
-  -- whether one counts that stands in a ProductSupply
+  -- whether one counts that stands in a ProductSupply: in a SupplyDetail of another than the
+  -- supplier that is named, where it might say whose it is
   abbrev pub has_stranger_in_supply : Nodes → Bool
   has_stranger_in_supply no_nodes = false
   has_stranger_in_supply (node n tag text below rest) =
-      (bytes_eq n stranger || is_strange_in_supply n below) || has_stranger_in_supply rest
-
-  -- whether one counts that stands in an element of a Product
-  abbrev pub is_strange_in_product : List ℕ → Nodes → Bool
-  is_strange_in_product n below =
-      if bytes_eq n (codes "ProductSupply") then has_stranger_in_supply below
-      else has_stranger below
+      (bytes_eq n stranger || (if bytes_eq n (codes "SupplyDetail") && is_of_other named below
+      then has_stranger_in (codes "Supplier") below
+      else has_stranger below)) || has_stranger_in_supply rest
 
   -- whether one counts that stands in a Product
   abbrev pub has_own_stranger : Nodes → Bool
   has_own_stranger no_nodes = false
   has_own_stranger (node n tag text below rest) =
-      (bytes_eq n stranger || is_strange_in_product n below) || has_own_stranger rest
+      (bytes_eq n stranger || (if bytes_eq n (codes "ProductSupply")
+      then has_stranger_in_supply below else has_stranger below)) || has_own_stranger rest

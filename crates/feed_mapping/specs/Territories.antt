@@ -1,6 +1,6 @@
 -- Where a Market or a Price holds: what its Territory says, and what of that the desk supports.
-use Rattle.std.specs.Prelude.{ℕ, Bool, not, ◌||◌, ◌&&◌, List, [], ◌∷◌, ◌++◌, Option, Some, None}
-use Rattle.std.specs.Prelude.{if◌then◌else◌, is_some, map, option_map}
+use Rattle.std.specs.Prelude.{ℕ, Bool, not, ◌||◌, ◌&&◌, List, [], ◌∷◌, ◌++◌, Option, Some, None, if◌then◌else◌}
+use Rattle.std.specs.Prelude.{is_some, map, option_map}
 use Rattle.std.specs.Option.{option_map_or, option_or}
 use Rattle.feed_xml.specs.Grammar.{is_filled}
 use Rattle.feed_outline.specs.Nodes.{Nodes}
@@ -56,14 +56,11 @@ area_in nodes =
 abbrev pub word_notes : Element → Foreign → List (List ℕ) → List Note
 word_notes element kind words = map (λ word. note element (foreign kind word)) words
 
--- why a region is left out of its territory, which is of this kind; two letters are a country
-abbrev pub region_reason : Foreign → List ℕ → Reason
-region_reason kind region =
-    if is_two_letters region then wrong CountryAsRegion region else foreign kind region
-
--- a note for each of some regions
+-- a note for each of some regions, which is left out of its territory; two letters are a country
 abbrev pub region_notes : Element → Foreign → List (List ℕ) → List Note
-region_notes element kind regions = map (λ r. note element (region_reason kind r)) regions
+region_notes element kind regions =
+    map (λ r. note element (if is_two_letters r then wrong CountryAsRegion r else foreign kind r))
+    regions
 
 -- the countries that a text names
 abbrev pub parsed_countries : List ℕ → Option (List (List ℕ))
@@ -73,11 +70,6 @@ module _ (a : Area) where
   -- whether a country or the world is included: a region beside it makes the territory no smaller
   abbrev pub has_country : Bool
   has_country = is_filled a.included || names_world a.regions_included
-
-  -- the first of the regions that are included, but for two letters, where neither a country nor
-  -- the world is: without them the territory would be the world
-  abbrev pub region_alone : Option (List ℕ)
-  region_alone = if has_country then None else first_region a.regions_included
 
   -- two letters among the regions, without which the territory would hold where it must not: where
   -- neither a country nor the world is included, or among those that are excluded
@@ -99,11 +91,15 @@ module _ (a : Area) where
       ∷ (if is_some a.territory && is_silent then Some (wrong EmptyTerritory []) else None)
       ∷ option_map (wrong CountryAsRegion) country_as_region ∷ []
 
-  -- why the desk does not support a territory, whatever is left out of it: it would be another one,
-  -- and not only a smaller one or one without whole countries
+  -- Why the desk does not support a territory, whatever is left out of it: it would be another one,
+  -- and not only a smaller one or one without whole countries. A region but two letters is included
+  -- where neither a country nor the world is, and without it the territory would be the world; or
+  -- one is excluded that is no part of a country.
   abbrev pub unsupported : Option Reason
   unsupported =
-      option_or (option_map (foreign RegionAlone) region_alone)
+      option_or
+      (if has_country then None
+      else option_map (foreign RegionAlone) (first_region a.regions_included))
       (option_map (foreign RegionOfNoCountry) (region_of_no_country a.regions_excluded))
 
   -- ---- what is written, and what is left out of it

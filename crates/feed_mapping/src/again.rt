@@ -1,7 +1,7 @@
 //! Elements that come again though they do not repeat.
 
 ghost use Rattle.std.specs.Prelude.{◌≡◌};
-ghost use Rattle.feed_mapping.specs.Again.{again_in, comes_again, is_composite, is_read_apart, is_repeatable};
+ghost use Rattle.feed_mapping.specs.Again.{again_in, comes_again, is_repeatable};
 ghost use Rattle.feed_mapping.specs.PriceViews.{text_view};
 
 use crate::elements::first_composite;
@@ -21,32 +21,16 @@ fn is_repeatable(name: &[u8]) -> bool
         || name == b";".as_slice()
 }
 
-// Whether what stands in an element of this name is looked at elsewhere.
-fn is_read_apart(name: &[u8]) -> bool
-    ensures { result ≡ is_read_apart name.now }
-{
-    name == b"PriceDate".as_slice()
-        || name == b"Discount".as_slice()
-        || name == b"DiscountCoded".as_slice()
-        || name == b"Tax".as_slice()
-}
-
-// Whether an element of this name is a composite that does not repeat.
-fn is_composite(name: &[u8]) -> bool
-    ensures { result ≡ is_composite name.now }
-{
-    name == b"Territory".as_slice()
-        || name == b"PriceCoded".as_slice()
-        || name == b"EpubLicense".as_slice()
-        || name == b"EpubLicenseWithDate".as_slice()
-}
-
 /// Whether an element of this name and text comes again among these: a composite, empty or not; and
 /// of one of text, which has a text, another with one.
 pub(crate) fn comes_again(name: &[u8], text: &[u8], rest: &Elements<'_>) -> bool
     ensures { result ≡ comes_again name.now text.now rest.now }
 {
-    if is_composite(name) {
+    if name == b"Territory".as_slice()
+        || name == b"PriceCoded".as_slice()
+        || name == b"EpubLicense".as_slice()
+        || name == b"EpubLicenseWithDate".as_slice()
+    {
         first_composite(name, rest).is_some()
     } else {
         !text.is_empty() && text_in(name, rest).is_some()
@@ -64,7 +48,11 @@ pub(crate) fn again_in(elements: &Elements<'_>) -> Option<&'static [u8]>
         if !is_repeatable(name) && comes_again(name, node.line.text.as_slice(), &node.rest) {
             return Some(name);
         }
-        if !is_read_apart(name) {
+        if name != b"PriceDate".as_slice()
+            && name != b"Discount".as_slice()
+            && name != b"DiscountCoded".as_slice()
+            && name != b"Tax".as_slice()
+        {
             if let Some(other) = again_in(&node.below) {
                 return Some(other);
             }

@@ -1,13 +1,12 @@
 //! The days between which a Price holds.
 
-ghost use Rattle.std.specs.Prelude.{◌≡◌, ◌++◌, ◌∷◌, [], Ok, codes, map, option_map};
+ghost use Rattle.std.specs.Prelude.{◌≡◌, ◌++◌, ◌∷◌, [], Ok, codes, map, option_and_then, option_map};
 ghost use Rattle.std.specs.List.{list_any};
-ghost use Rattle.std.specs.Option.{option_or};
 ghost use Rattle.std.specs.Str.{bytes_eq};
 ghost use Rattle.feed_mapping.specs.Elements.{element_view};
 ghost use Rattle.feed_mapping.specs.DateViews.{dated_view, days_read};
 ghost use Rattle.feed_mapping.specs.PriceViews.{text_view};
-ghost use Rattle.feed_mapping.specs.Dates.{and_days, are_one, date_in, days_by_role, unless_again, parsed_day, days_in, days_of, parsed_days, wrong_date, digits_in, format_in, formats, graver, in_day, in_format, in_month, in_year, is_time, or_days, role_days, two_days};
+ghost use Rattle.feed_mapping.specs.Dates.{and_days, are_one, date_in, days_by_role, unless_again, parsed_day, days_in, days_of, parsed_days, digits_in, format_in, formats, graver, is_time, or_days, role_days, span, two_days};
 ghost use Rattle.feed_mapping.specs.Notes.{reason_view, wrong};
 ghost use Rattle.feed_mapping.specs.Records.{first_some};
 
@@ -69,9 +68,11 @@ fn day_digits(text: &[u8]) -> Option<[u8; 8]>
     }
 }
 
-// A day, as the first and the last.
+// The first and the last day of a day, a month and a year.
 fn in_day(text: &[u8]) -> Option<Days>
-    ensures { result ≡ in_day text.now }
+    ensures { result
+        ≡ option_and_then (span "" ("" ∷ []))
+        (digits_in is_time ("YYYYMMDD" ∷ "YYYY-MM-DD" ∷ []) text.now) }
 {
     let day = parsed_day(&day_digits(text)?)?;
     Some(Days {
@@ -104,15 +105,16 @@ fn last_of_month(month: &[u8; 6]) -> Option<Day>
     ensures { result ≡ first_some (map (λ last. parsed_day (month.now ++ codes last))
         ("31" ∷ "30" ∷ "29" ∷ "28" ∷ [])) }
 {
-    let shortest = former(day_in_month(month, b"28"), None);
-    let shorter = former(day_in_month(month, b"29"), shortest);
-    let longer = former(day_in_month(month, b"30"), shorter);
-    former(day_in_month(month, b"31"), longer)
+    day_in_month(month, b"31")
+        .or(day_in_month(month, b"30"))
+        .or(day_in_month(month, b"29"))
+        .or(day_in_month(month, b"28"))
 }
 
-// The first and the last day of a month.
 fn in_month(text: &[u8]) -> Option<Days>
-    ensures { result ≡ in_month text.now }
+    ensures { result
+        ≡ option_and_then (span "01" ("31" ∷ "30" ∷ "29" ∷ "28" ∷ []))
+        (digits_in (bytes_eq []) ("YYYYMM" ∷ "YYYY-MM" ∷ []) text.now) }
 {
     let month = month_digits(text)?;
     let first = day_in_month(&month, b"01")?;
@@ -142,9 +144,10 @@ fn day_in_year(year: &[u8; 4], day: &[u8; 4]) -> Option<Day>
     parsed_day(&[a, b, c, d, e, f, g, h])
 }
 
-// The first and the last day of a year, YYYY.
 fn in_year(text: &[u8]) -> Option<Days>
-    ensures { result ≡ in_year text.now }
+    ensures { result
+        ≡ option_and_then (span "0101" ("1231" ∷ []))
+        (digits_in (bytes_eq []) ("YYYY" ∷ []) text.now) }
 {
     let year = year_digits(text)?;
     let first = day_in_year(&year, b"0101")?;
@@ -166,39 +169,20 @@ fn is_format(format: &[u8]) -> bool
         || format == b"05".as_slice()
 }
 
-// The first and the last day of a text of such a format.
-fn in_format(format: &[u8], text: &[u8]) -> Option<Days>
-    ensures { result ≡ in_format format.now text.now }
-{
-    if format == b"01".as_slice() {
-        in_month(text)
-    } else if format == b"05".as_slice() {
-        in_year(text)
-    } else {
-        in_day(text)
-    }
-}
-
-// That a text is no day, month or year, by such a format.
-fn wrong_date<'a>(format: &[u8], text: &'a [u8]) -> Reason<'a>
-    ensures { reason_view result ≡ wrong (wrong_date format.now) text.now }
-{
-    if format == b"01".as_slice() {
-        Reason::wrong(Wrong::Month, text)
-    } else if format == b"05".as_slice() {
-        Reason::wrong(Wrong::Year, text)
-    } else {
-        Reason::wrong(Wrong::Day, text)
-    }
-}
-
-// The days of a text of such a format.
+// The days of a text of such a format, or that it is no month, year or day.
 fn parsed_days<'a>(format: &[u8], text: &'a [u8]) -> Result<Days, Reason<'a>>
     ensures { days_read result ≡ parsed_days format.now text.now }
 {
-    match in_format(format, text) {
+    let (days, kind) = if format == b"01".as_slice() {
+        (in_month(text), Wrong::Month)
+    } else if format == b"05".as_slice() {
+        (in_year(text), Wrong::Year)
+    } else {
+        (in_day(text), Wrong::Day)
+    };
+    match days {
         Some(days) => Ok(days),
-        None => Err(wrong_date(format, text)),
+        None => Err(Reason::wrong(kind, text)),
     }
 }
 
@@ -335,16 +319,6 @@ fn days_of<'a>(elements: &Elements<'a>) -> Dated<'a>
     }
 }
 
-// The former of two days, where there is one.
-fn former(one: Option<Day>, other: Option<Day>) -> Option<Day>
-    ensures { result ≡ option_or one other }
-{
-    match one {
-        Some(day) => Some(day),
-        None => other,
-    }
-}
-
 // Whether two days are one, where both are there.
 fn are_one(one: Option<Day>, other: Option<Day>) -> bool
     ensures { result ≡ are_one one other }
@@ -364,8 +338,8 @@ fn or_days<'a>(days: Days, more: Days) -> Dated<'a>
 {
     if are_one(days.first, more.first) && are_one(days.last, more.last) {
         let days = Days {
-            first: former(days.first, more.first),
-            last: former(days.last, more.last),
+            first: days.first.or(more.first),
+            last: days.last.or(more.last),
         };
         return Dated { days, wrong: None };
     }

@@ -4,14 +4,15 @@ ghost use Rattle.std.specs.Prelude.{◌≡◌, ◌++◌, ◌∷◌, ◌+◌, ◌
 ghost use Rattle.std.specs.List.{list_all};
 ghost use Rattle.std.specs.Option.{unwrap_or};
 ghost use Rattle.std.specs.Str.{is_utf8};
-ghost use Rattle.feed_mapping.specs.Details.{context_by, context_in, default_minimum, old_supply, detail_fields, detail_outcome, detail_reasons, detail_reason, first_detail_reason, identifier_reasons, name_reason, price_in, priced_notes, priced_records, prices_in, supplier_id, unpriced_in, unpriced_price};
-ghost use Rattle.feed_mapping.specs.Elements.{composites, text_or_empty};
-ghost use Rattle.feed_mapping.specs.Notes.{note_views, reason_view, wrong};
+ghost use Rattle.feed_mapping.specs.Details.{context_by, context_in, old_supply, detail_fields, detail_outcome, detail_reasons, detail_reason, first_detail_reason, identifier_reasons, name_reason, price_in, priced_notes, priced_records, prices_in, supplier_id, unpriced_in, unpriced_price};
+ghost use Rattle.feed_outline.specs.Composites.{text_in};
+ghost use Rattle.feed_mapping.specs.Notes.{note_views, wrong};
 ghost use Rattle.feed_mapping.specs.Outcomes.{all_notes, all_records, notes_below, outcome_reason, outcome_records, written_unless};
 ghost use Rattle.feed_mapping.specs.PartyViews.{pair_view};
 ghost use Rattle.feed_mapping.specs.PriceViews.{reason_read, text_view};
 ghost use Rattle.feed_mapping.specs.Prices.{context_view};
-ghost use Rattle.feed_mapping.specs.Records.{first_some, parsed};
+ghost use Rattle.feed_mapping.specs.Records.{first_some, option_filter, parsed, parsed_term};
+ghost use Rattle.onix_terms.specs.Quantity.{quantity_of};
 ghost use Rattle.feed_mapping.specs.SupplyChoices.{supply_choices_view};
 ghost use Rattle.feed_mapping.specs.declared.notes.Wrong.TheVariants as bad;
 ghost use Rattle.onix_records.specs.declared.row.Opening.{Opening as Said};
@@ -56,11 +57,13 @@ fn unpriced_price<'a>(elements: &Elements<'a>) -> Option<&'a [u8]>
     }
 }
 
-// The first such UnpricedItemType of the Prices.
-fn unpriced_prices<'a>(elements: &Elements<'a>) -> Option<&'a [u8]>
-    ensures { text_view result
-        ≡ first_some (map (λ c. unpriced_price c.below) (composites (codes "Price") elements.now)) }
+// The UnpricedItemType of a SupplyDetail, else the first such one of its Prices.
+fn unpriced_in<'a>(elements: &Elements<'a>) -> Option<&'a [u8]>
+    ensures { text_view result ≡ unpriced_in elements.now }
 {
+    if let Some(text) = text_in(b"UnpricedItemType", elements) {
+        return Some(text);
+    }
     let mut rest = elements.copy();
     while let Some((price, behind)) = next_composite(b"Price", &rest) {
         if let Some(text) = unpriced_price(&price.below) {
@@ -69,16 +72,6 @@ fn unpriced_prices<'a>(elements: &Elements<'a>) -> Option<&'a [u8]>
         rest = behind;
     }
     None
-}
-
-// The UnpricedItemType of a SupplyDetail.
-fn unpriced_in<'a>(elements: &Elements<'a>) -> Option<&'a [u8]>
-    ensures { text_view result ≡ unpriced_in elements.now }
-{
-    match text_in(b"UnpricedItemType", elements) {
-        Some(text) => Some(text),
-        None => unpriced_prices(elements),
-    }
 }
 
 // The identifier of the supplier that is chosen.
@@ -189,7 +182,10 @@ fn write_detail<'a>(
         records.push(&fields.as_record())?;
         return Ok(None);
     }
-    Ok(Some(detail_reason(supplier, elements)))
+    match field_reason(supplier, elements) {
+        Some(reason) => Ok(Some(reason)),
+        None => Ok(Some(Reason::wrong(Wrong::SupplyDetail, b""))),
+    }
 }
 
 // What is wrong with the identifier of a supplier, who has this name.
@@ -242,18 +238,6 @@ fn field_reason<'a>(supplier: Pair<'a>, elements: &Elements<'a>) -> Option<Reaso
     ])
 }
 
-// Why a SupplyDetail that the desk would not take is left out.
-fn detail_reason<'a>(supplier: Pair<'a>, elements: &Elements<'a>) -> Reason<'a>
-    ensures { (preferred : List ℕ) → pair_view supplier.entry ≡ supplier_id preferred elements.now
-        → reason_view result ≡ unwrap_or
-        (first_some (detail_reasons preferred elements.now)) (wrong bad.SupplyDetail []) }
-{
-    match field_reason(supplier, elements) {
-        Some(reason) => reason,
-        None => Reason::wrong(Wrong::SupplyDetail, b""),
-    }
-}
-
 /// Why the first SupplyDetail among the elements that counts is left out, where it is.
 pub(crate) fn first_detail_reason<'a>(
     alloc: Global,
@@ -278,7 +262,8 @@ pub(crate) fn first_detail_reason<'a>(
 
 // The OrderQuantityMinimum, where it is a quantity.
 fn default_minimum<'a>(elements: &Elements<'a>) -> Option<&'a [u8]>
-    ensures { text_view result ≡ default_minimum elements.now }
+    ensures { text_view result ≡ option_filter (λ text. is_some (parsed_term quantity_of text))
+        (text_in (codes "OrderQuantityMinimum") elements.now) }
 {
     let text = text_in(b"OrderQuantityMinimum", elements)?;
     if parsed_quantity(text).is_some() {

@@ -1,11 +1,11 @@
 //! The Header.
 
 ghost use Rattle.std.specs.Prelude.{◌≡◌, ◌+◌, ◌∷◌, ◌<◌, List, ℕ, Err, IsErrOf, OnOk, Some, true, false, codes, decimal, map, option_map};
-ghost use Rattle.std.specs.Option.{ok_or, option_map_or};
+ghost use Rattle.std.specs.Option.{ok_or};
 ghost use Rattle.std.specs.Str.{is_utf8};
 ghost use Rattle.std.specs.List.{list_all, list_any};
 ghost use Rattle.feed_mapping.specs.Elements.{composites};
-ghost use Rattle.feed_mapping.specs.Header.{added, are_identified, behind_zeros, picked, repeat_in, addressee_pair, addressee_in, first_number, heading_in, if_whole, meant, message_fields, number_in, parsed_opening, sender_in, sender_of};
+ghost use Rattle.feed_mapping.specs.Header.{added, are_identified, behind_zeros, repeat_in, addressee_pair, addressee_in, first_number, heading_in, if_whole, meant, message_fields, number_in, parsed_opening, sender_in};
 ghost use Rattle.feed_mapping.specs.HeaderViews.{choices_view, pair_read, IsHeading, IsOpening};
 ghost use Rattle.feed_mapping.specs.PartyViews.{pair_view};
 ghost use Rattle.feed_mapping.specs.Identifiers.{identifiers_in};
@@ -130,36 +130,20 @@ pub(crate) fn has_whole(kind: Kind, elements: &Elements<'_>) -> bool
     false
 }
 
-// The identifier of the sender that is written.
-fn named_sender<'a>(found: Option<Pair<'a>>) -> Result<Pair<'a>, HeaderRefusal>
-    ensures { pair_read result
-        ≡ option_map_or if_whole (option_map pair_view found.entry) (Err HeaderRefusal.NoSender) }
-{
-    match found {
-        Some(identifier) => if_whole(identifier),
-        None => Err(HeaderRefusal::NoSender),
-    }
-}
-
-// The type and the value of the sender, by what stands in Sender.
-fn sender_of<'a>(choices: &Choices<'a>, elements: &Elements<'a>) -> Result<Pair<'a>, HeaderRefusal>
-    ensures { pair_read result ≡ sender_of (choices_view choices.now)
-        (identifiers_in (codes "SenderIdentifier") (codes "SenderIDType") elements.now) }
-{
-    if !has_whole(SENDER, elements) {
-        if let Some(given) = choices.sender {
-            return Ok(given);
-        }
-    }
-    named_sender(choose_identifier(SENDER, choices.id_type, elements))
-}
-
 // The type and the value of the sender.
 fn sender_in<'a>(choices: &Choices<'a>, elements: &Elements<'a>) -> Result<Pair<'a>, HeaderRefusal>
     ensures { pair_read result ≡ sender_in (choices_view choices.now) elements.now }
 {
     let sender = elements_in(b"Sender", elements);
-    sender_of(choices, &sender)
+    if !has_whole(SENDER, &sender) {
+        if let Some(given) = choices.sender {
+            return Ok(given);
+        }
+    }
+    match choose_identifier(SENDER, choices.id_type, &sender) {
+        Some(identifier) => if_whole(identifier),
+        None => Err(HeaderRefusal::NoSender),
+    }
 }
 
 // What stands in the first addressee with such an identifier.
@@ -191,20 +175,6 @@ fn are_identified(elements: &Elements<'_>) -> bool
     false
 }
 
-// What stands in the addressee of several that the caller means.
-fn picked<'a>(
-    pair: Option<Pair<'_>>,
-    elements: &Elements<'a>,
-) -> Result<Elements<'a>, HeaderRefusal>
-    ensures { result ≡ picked (option_map pair_view pair.entry)
-        (composites (codes "Addressee") elements.now) }
-{
-    match pair {
-        Some(pair) => meant(pair, elements),
-        None => Err(HeaderRefusal::SeveralAddressees),
-    }
-}
-
 /// What stands in the addressee.
 pub(crate) fn addressee_in<'a>(
     pair: Option<Pair<'_>>,
@@ -219,7 +189,10 @@ pub(crate) fn addressee_in<'a>(
     match next_composite(b"Addressee", &behind) {
         None => Ok(one.below),
         Some(_) => if are_identified(elements) {
-            picked(pair, elements)
+            match pair {
+                Some(pair) => meant(pair, elements),
+                None => Err(HeaderRefusal::SeveralAddressees),
+            }
         } else {
             Ok(Elements::none())
         },

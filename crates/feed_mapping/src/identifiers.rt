@@ -4,7 +4,7 @@ ghost use Rattle.std.specs.Prelude.{◌≡◌, find, option_map};
 ghost use Rattle.std.specs.List.{list_any};
 ghost use Rattle.std.specs.Str.{bytes_eq};
 ghost use Rattle.feed_mapping.specs.Elements.{with_others};
-ghost use Rattle.feed_mapping.specs.Identifiers.{identifier_in, identifiers_in, chosen};
+ghost use Rattle.feed_mapping.specs.Identifiers.{identifiers_in, chosen};
 ghost use Rattle.feed_mapping.specs.Parties.{is_there, same_pair};
 ghost use Rattle.feed_mapping.specs.PartyViews.{pair_view};
 
@@ -37,16 +37,6 @@ pub(crate) const SUPPLIER: Kind = Kind {
     type_name: b"SupplierIDType",
 };
 
-// What stands in an identifier whose type has this name.
-fn identifier_in<'a>(type_name: &[u8], elements: &Elements<'a>) -> Pair<'a>
-    ensures { pair_view result ≡ identifier_in type_name.now elements.now }
-{
-    Pair {
-        id_type: text_or_empty(type_name, elements),
-        id_value: text_or_empty(b"IDValue", elements),
-    }
-}
-
 // Whether an identifier has a type or a value: one with neither is as none.
 pub(crate) fn is_there(identifier: Pair<'_>) -> bool
     ensures { result ≡ is_there (pair_view identifier.entry) }
@@ -66,7 +56,10 @@ pub(crate) fn next_identifier<'a>(
     let mut rest = elements.copy();
     while let Some(node) = rest.first() {
         if node.line.name == kind.name {
-            let found = identifier_in(kind.type_name, &node.below);
+            let found = Pair {
+                id_type: text_or_empty(kind.type_name, &node.below),
+                id_value: text_or_empty(b"IDValue", &node.below),
+            };
             if is_there(found) {
                 return Some((found, node.rest));
             }

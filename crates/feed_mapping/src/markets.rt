@@ -4,8 +4,8 @@ ghost use Rattle.std.specs.Prelude.{◌≡◌, ◌++◌, ◌∷◌, ◌<◌, ◌
 ghost use Rattle.std.specs.List.{flat_map, list_any};
 ghost use Rattle.std.specs.Option.{option_or};
 ghost use Rattle.feed_mapping.specs.Elements.{composites};
-ghost use Rattle.feed_mapping.specs.Markets.{IsFilled, IsKept, early_market_reasons, first_kept, first_market_reason, kept_area, kept_fields, kept_outcome, is_foreign_market, market_notes, markets_outcome, no_market, some_outcome, supply_record, territories_of, territory_of};
-ghost use Rattle.feed_mapping.specs.Notes.{Note as Said, foreign, note_views, reason_view};
+ghost use Rattle.feed_mapping.specs.Markets.{IsFilled, IsKept, early_market_reasons, first_kept, first_market_reason, kept_area, kept_fields, kept_outcome, is_foreign_market, market_notes, markets_outcome, some_outcome, supply_record, territories_of, territory_of};
+ghost use Rattle.feed_mapping.specs.Notes.{Note as Said, foreign, note_views};
 ghost use Rattle.feed_mapping.specs.Outcomes.{notes_below, outcome_reason, outcome_records};
 ghost use Rattle.feed_mapping.specs.PriceViews.{reason_read};
 ghost use Rattle.feed_mapping.specs.Records.{first_some};
@@ -175,17 +175,6 @@ fn fill_kept(
     }
 }
 
-// That the Markets of a ProductSupply are all left out.
-fn no_market(some_foreign: bool) -> Reason<'static>
-    ensures { reason_view result ≡ no_market some_foreign }
-{
-    if some_foreign {
-        Reason::foreign(Foreign::NoMarketLeft, b"")
-    } else {
-        Reason::wrong(Wrong::NoMarketLeft, b"")
-    }
-}
-
 // Adds the record of a ProductSupply of Markets that are left, of which this is the first, or tells
 // that it is too long.
 fn add_first(
@@ -227,7 +216,11 @@ fn add_kept<'a>(
         kept.now.some_foreign notes)) }
 {
     let Some(first) = &kept.first else {
-        return Ok(Some(no_market(kept.some_foreign)));
+        return Ok(Some(if kept.some_foreign {
+            Reason::foreign(Foreign::NoMarketLeft, b"")
+        } else {
+            Reason::wrong(Wrong::NoMarketLeft, b"")
+        }));
     };
     add_first(alloc, first, kept.territories.as_slice(), fields, records)
 }

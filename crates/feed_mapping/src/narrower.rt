@@ -4,7 +4,7 @@
 ghost use Rattle.std.specs.Prelude.{◌≡◌, [], IfOk, OnOk, if◌then◌else◌};
 ghost use Rattle.std.specs.List.{list_any};
 ghost use Rattle.std.specs.Str.{bytes_eq};
-ghost use Rattle.feed_mapping.specs.Narrower.{all_excluded, countries_before, countries_in, countries_without, each_once, excluded_then, is_alike, may_be, with_country};
+ghost use Rattle.feed_mapping.specs.Narrower.{all_excluded, countries_before, countries_in, countries_without, each_once, excluded_then, is_alike, with_country};
 ghost use Rattle.feed_mapping.specs.NarrowerSets.{AreSeen};
 ghost use Rattle.feed_mapping.specs.Records.{parsed_term};
 ghost use Rattle.onix_terms.specs.Code.{country_of};
@@ -13,7 +13,7 @@ use crate::dates::Days;
 use crate::records::utf8_text;
 use crate::regions::next_word;
 use feed_terms::price::Kind;
-use onix_terms::code::{Code, Country};
+use onix_terms::code::Country;
 use onix_terms::countries::countries_text;
 use onix_terms::items::Items;
 use onix_terms::text::Text;
@@ -43,28 +43,12 @@ pub struct Countries {
     seen: BTreeMap<String, bool>,
 }
 
-// Whether a code is none, or the other.
-fn may_be<const FIRST: u8, const LAST: u8, const N: usize>(
-    one: Option<Code<FIRST, LAST, N>>,
-    other: Option<Code<FIRST, LAST, N>>,
-) -> bool
-    ensures { result ≡ may_be one.entry other.entry }
-{
-    match one {
-        None => true,
-        Some(one) => match other {
-            Some(other) => one == other,
-            None => false,
-        },
-    }
-}
-
 // Whether a Price that goes before others is alike one of them.
 fn is_alike(first: &Alike, other: &Alike) -> bool
     ensures { result ≡ is_alike first.now other.now }
 {
-    may_be(first.kind.price_type, other.kind.price_type)
-        && may_be(first.kind.currency, other.kind.currency)
+    (first.kind.price_type.is_none() || first.kind.price_type == other.kind.price_type)
+        && (first.kind.currency.is_none() || first.kind.currency == other.kind.currency)
         && first.copies == other.copies
         && first.days.first == other.days.first
         && first.days.last == other.days.last

@@ -1,7 +1,7 @@
 //! Amounts of Prices, as they are written.
 
 ghost use Rattle.std.specs.Prelude.{◌≡◌, ◌<◌, ◌^◌, IfOk, IfSome, option_map};
-ghost use Rattle.feed_mapping.specs.Amounts.{amount_said, cut_zeros, is_zero, long_part_of, point_in, rounded_amount, rounded_of, written_amount};
+ghost use Rattle.feed_mapping.specs.Amounts.{amount_said, is_zero, long_part_of, point_in, rounded_amount, rounded_of, written_amount};
 ghost use Rattle.onix_terms.specs.Amount.{amount_text};
 
 use crate::elements::text_or_empty;
@@ -12,21 +12,6 @@ use onix_terms::ascii::are_digits;
 use onix_terms::digits::read_digits;
 use onix_terms::text::Text;
 use std::alloc::{AllocError, Global};
-
-// A text with its point there, without the zeros behind the third decimal.
-fn cut_zeros(point: Option<usize>, text: &[u8]) -> &[u8]
-    requires { point ≡ point_in text.now }
-    ensures { result.now ≡ cut_zeros point text.now }
-{
-    let Some(at) = point else {
-        return text;
-    };
-    if text.len() - at <= 4 {
-        return text;
-    }
-    let (front, zeros) = text.split_at(at + 4);
-    if are_zeros(zeros) { front } else { text }
-}
 
 fn point_in(text: &[u8]) -> Option<usize>
     ensures { result ≡ point_in text.now }
@@ -39,7 +24,14 @@ pub(crate) fn amount_said<'a>(elements: &Elements<'a>) -> &'a [u8]
     ensures { result.now ≡ amount_said elements.now }
 {
     let text = text_or_empty(b"PriceAmount", elements);
-    cut_zeros(point_in(text), text)
+    let Some(at) = point_in(text) else {
+        return text;
+    };
+    if text.len() - at <= 4 {
+        return text;
+    }
+    let (front, zeros) = text.split_at(at + 4);
+    if are_zeros(zeros) { front } else { text }
 }
 
 // The thousandths of more than three digits behind the point: to the third, halves up.

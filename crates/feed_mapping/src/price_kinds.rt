@@ -2,14 +2,13 @@
 
 ghost use Rattle.std.specs.Prelude.{◌≡◌};
 ghost use Rattle.std.specs.List.{list_any};
-ghost use Rattle.feed_mapping.specs.Prices.{are_same, is_kind, kind_in};
+ghost use Rattle.feed_mapping.specs.Prices.{is_kind, kind_in};
 
 use crate::elements::text_or_empty;
 use crate::records::{parsed_code, parsed_currency, value_or_default};
 use feed_outline::Elements;
 use feed_terms::price::Kind;
 use onix_records::row::Opening;
-use onix_terms::code::Code;
 
 // The price type and the currency of a Price.
 pub(crate) fn kind_in(opening: &Opening, elements: &Elements<'_>) -> Kind
@@ -31,29 +30,17 @@ pub(crate) fn kind_in(opening: &Opening, elements: &Elements<'_>) -> Kind
     }
 }
 
-// Whether two codes are there and the same.
-fn are_same<const FIRST: u8, const LAST: u8, const N: usize>(
-    one: Option<Code<FIRST, LAST, N>>,
-    other: Option<Code<FIRST, LAST, N>>,
-) -> bool
-    ensures { result ≡ are_same one.entry other.entry }
-{
-    match one {
-        Some(one) => match other {
-            Some(other) => one == other,
-            None => false,
-        },
-        None => false,
-    }
-}
-
 // Whether one of the kinds is this one.
 pub(crate) fn has_kind(kind: &Kind, kinds: &[Kind]) -> bool
     ensures { result ≡ list_any (is_kind kind.now) kinds.now }
 {
     let mut rest = kinds;
     while let [first, tail @ ..] = rest {
-        if are_same(kind.price_type, first.price_type) && are_same(kind.currency, first.currency) {
+        if kind.price_type.is_some()
+            && kind.price_type == first.price_type
+            && kind.currency.is_some()
+            && kind.currency == first.currency
+        {
             return true;
         }
         rest = tail;

@@ -8,7 +8,7 @@ ghost use Rattle.feed_mapping.specs.Notes.{foreign, note, note_views};
 ghost use Rattle.feed_mapping.specs.Outcomes.{all_notes, outcome_notes, outcome_records};
 ghost use Rattle.feed_mapping.specs.PartyViews.{pair_view};
 ghost use Rattle.feed_mapping.specs.Prices.{context_view};
-ghost use Rattle.feed_mapping.specs.PriceTerms.{AreWritten, area_text, closed_by, code_in, discount_in, elements_in, given_in, given_of, is_garbled, is_mixed, is_of_terms, kinds_closed, outcome_in, places_view, rate_in, records_with, all_remark_notes, remark_notes, supplier_of, tax_in, terms_notes};
+ghost use Rattle.feed_mapping.specs.PriceTerms.{AreWritten, area_text, closed_by, code_in, discount_in, elements_in, given_in, given_of, is_garbled, is_mixed, is_of_terms, kinds_closed, outcome_in, places_view, records_with, all_remark_notes, remark_notes, supplier_of, tax_in, terms_notes};
 ghost use Rattle.feed_mapping.specs.declared.notes.Foreign.TheVariants as other;
 
 use crate::again::comes_again;
@@ -133,18 +133,8 @@ fn discounts_in(alloc: Global, elements: &Elements<'_>) -> Result<Items<Discount
     Ok(all)
 }
 
-// The rate that a Tax says: where it says no percent, none at all by the code Z.
-fn rate_in(tax: &Elements<'_>) -> Option<Percent>
-    ensures { result ≡ rate_in tax.now }
-{
-    let Some(percent) = text_in(b"TaxRatePercent", tax) else {
-        let is_zero = text_or_empty(b"TaxRateCode", tax) == b"Z".as_slice();
-        return if is_zero { Some(Percent::zero()) } else { None };
-    };
-    Percent::read_of_feed(utf8_text(percent)?)
-}
-
-// The rate of the Tax of a Price, where it has just one.
+// The rate of the Tax of a Price, where it has just one: where that says no percent, none at all by
+// the code Z.
 fn tax_in(elements: &Elements<'_>) -> Option<Percent>
     ensures { result ≡ tax_in (composites (codes "Tax") elements.now) }
 {
@@ -152,7 +142,11 @@ fn tax_in(elements: &Elements<'_>) -> Option<Percent>
     if next_composite(b"Tax", &behind).is_some() {
         return None;
     }
-    rate_in(&tax.below)
+    let Some(percent) = text_in(b"TaxRatePercent", &tax.below) else {
+        let is_zero = text_or_empty(b"TaxRateCode", &tax.below) == b"Z".as_slice();
+        return if is_zero { Some(Percent::zero()) } else { None };
+    };
+    Percent::read_of_feed(utf8_text(percent)?)
 }
 
 // The fields of a territory, each with a comma behind it.

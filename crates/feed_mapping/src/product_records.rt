@@ -5,7 +5,7 @@ ghost use Rattle.feed_mapping.specs.Notes.{note, note_views};
 ghost use Rattle.feed_mapping.specs.Outcomes.{all_notes, all_records};
 ghost use Rattle.feed_mapping.specs.PartyViews.{pair_view};
 ghost use Rattle.feed_mapping.specs.PriceViews.{reason_read};
-ghost use Rattle.feed_mapping.specs.ProductRecords.{fate_of, ignored_reason, is_alone, is_followed, isbn_reason, notes_behind, notification_written, others_reason, product_notes, product_records, fate_by, records_by, supplies_in, too_large_notes, why_emptied, written_notes};
+ghost use Rattle.feed_mapping.specs.ProductRecords.{fate_of, is_alone, is_followed, notes_behind, notification_written, product_notes, product_records, fate_by, records_by, supplies_in, too_large_notes, why_emptied, written_notes};
 ghost use Rattle.feed_mapping.specs.Supplies.{supplies_reason, supply_in};
 ghost use Rattle.std.specs.Option.{option_map_or};
 ghost use Rattle.feed_mapping.specs.Products.{bare_record, has_isbn, dropping, notification_in, own_reason, product_record, right_pairs};
@@ -49,46 +49,11 @@ fn is_followed(notification: &[u8]) -> bool
         || notification == b"05".as_slice()
 }
 
-// That the desk will not find a Product by an ISBN.
-fn isbn_reason(is_found: bool, elements: &Elements<'_>) -> Option<Reason<'static>>
-    ensures { is_found ≡ has_isbn elements.now → reason_read result ≡ isbn_reason elements.now }
-{
-    if is_deletion(elements) || is_found {
-        None
-    } else {
-        Some(Reason::foreign(Foreign::NoIsbn, b""))
-    }
-}
-
-// That the desk ignores a Product of its NotificationType.
-fn ignored_reason<'a>(elements: &Elements<'a>) -> Option<Reason<'a>>
-    ensures { reason_read result ≡ ignored_reason elements.now }
-{
-    let notification = notification_in(elements);
-    if is_followed(notification) {
-        None
-    } else {
-        Some(Reason::foreign(Foreign::Ignored, notification))
-    }
-}
-
 // Whether a Product is of other suppliers alone.
 fn is_alone(supplier: Option<Pair<'_>>, elements: &Elements<'_>) -> bool
     ensures { result ≡ is_alone (option_map pair_view supplier.entry) elements.now }
 {
     supplier.is_some() && !is_deletion(elements) && is_of_others(supplier, elements)
-}
-
-// That it is.
-fn others_reason(supplier: Option<Pair<'_>>, elements: &Elements<'_>) -> Option<Reason<'static>>
-    ensures { reason_read result
-        ≡ others_reason (option_map pair_view supplier.entry) elements.now }
-{
-    if is_alone(supplier, elements) {
-        Some(Reason::foreign(Foreign::OfOthers, b""))
-    } else {
-        None
-    }
 }
 
 // Adds the notes on a Product that is written.
@@ -103,9 +68,22 @@ fn push_written_notes<'a>(
         ++ written_notes (option_map pair_view supplier.entry)
         product.now.below product.now.element) }
 {
-    push_reason(notes, product.line, isbn_reason(is_found, &product.below))?;
-    push_reason(notes, product.line, ignored_reason(&product.below))?;
-    push_reason(notes, product.line, others_reason(supplier, &product.below))
+    let elements = &product.below;
+    let notification = notification_in(elements);
+    if !is_deletion(elements) && !is_found {
+        push_note(notes, product.line, Reason::foreign(Foreign::NoIsbn, b""))?;
+    }
+    if !is_followed(notification) {
+        push_note(
+            notes,
+            product.line,
+            Reason::foreign(Foreign::Ignored, notification),
+        )?;
+    }
+    if is_alone(supplier, elements) {
+        push_note(notes, product.line, Reason::foreign(Foreign::OfOthers, b""))?;
+    }
+    Ok(())
 }
 
 // Adds the record of a Product, with this NotificationType and these types and values.

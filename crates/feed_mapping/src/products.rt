@@ -7,7 +7,7 @@ ghost use Rattle.std.specs.Str.{chars};
 ghost use Rattle.feed_mapping.specs.Notes.{note_views, reason_view};
 ghost use Rattle.feed_mapping.specs.PartyViews.{pair_view};
 ghost use Rattle.feed_mapping.specs.PriceViews.{reason_read};
-ghost use Rattle.feed_mapping.specs.Products.{MayBe, are_some, beside_isbn, graded, digit_byte, dropping, has_isbn, identifier_note, identifier_notes, is_blank, is_deletion, is_gtin_type, is_hyphen, is_isbn, is_strange, is_thirteen, notification_in, or_reference, own_reasons, pair_reason, product_record, reference_in, right_pair, right_pairs, thirteen_of, type_of, value_of, without_marks, written_value};
+ghost use Rattle.feed_mapping.specs.Products.{MayBe, are_some, graded, digit_byte, dropping, has_isbn, is_mark, identifier_note, identifier_notes, is_deletion, is_gtin_type, is_isbn, is_strange, is_thirteen, notification_in, or_reference, own_reasons, pair_reason, product_record, reference_in, right_pair, right_pairs, thirteen_of, type_of, value_of, without_marks, written_value};
 ghost use Rattle.feed_mapping.specs.Records.{first_some, unless};
 ghost use Rattle.feed_mapping.specs.declared.notes.Wrong.TheVariants as bad;
 
@@ -54,22 +54,18 @@ fn is_thirteen(text: &[u8]) -> bool
     text.len() == 13 && are_digits(text)
 }
 
-fn is_hyphen(c: char) -> bool
-    ensures { result ≡ is_hyphen c }
-{
-    c == '-' || c == '\u{ad}' || (c >= '\u{2010}' && c <= '\u{2015}') || c == '\u{2212}'
-}
-
-fn is_blank(c: char) -> bool
-    ensures { result ≡ is_blank c }
-{
-    c == ' ' || c == '\u{a0}' || c == '\u{2009}' || c == '\u{202f}'
-}
-
+// Whether a character is a hyphen or a space.
 fn is_mark(c: char) -> bool
-    ensures { result ≡ (is_hyphen c || is_blank c) }
+    ensures { result ≡ is_mark c }
 {
-    is_hyphen(c) || is_blank(c)
+    c == '-'
+        || c == '\u{ad}'
+        || (c >= '\u{2010}' && c <= '\u{2015}')
+        || c == '\u{2212}'
+        || c == ' '
+        || c == '\u{a0}'
+        || c == '\u{2009}'
+        || c == '\u{202f}'
 }
 
 fn characters_of(alloc: Global, text: &str) -> Result<Vec<char>, AllocError>
@@ -166,23 +162,16 @@ fn pair_reason<'a>(id_type: &'a [u8], written: &[u8], stands: &'a [u8]) -> Optio
 }
 
 // What is wrong with an identifier is foreign beside one by which the product is found.
-fn beside_isbn(kind: ReasonKind) -> ReasonKind
-    ensures { result ≡ beside_isbn kind }
-{
-    match kind {
-        ReasonKind::Wrong(Wrong::IdentifierType) => ReasonKind::Foreign(Foreign::IdentifierType),
-        ReasonKind::Wrong(Wrong::IdentifierValue) => ReasonKind::Foreign(Foreign::IdentifierValue),
-        _ => kind,
-    }
-}
-
 fn graded<'a>(is_found: bool, reason: Reason<'a>) -> Reason<'a>
     ensures { reason_view result ≡ graded is_found (reason_view reason.entry) }
 {
-    let kind = if is_found {
-        beside_isbn(reason.kind)
-    } else {
-        reason.kind
+    if !is_found {
+        return reason;
+    }
+    let kind = match reason.kind {
+        ReasonKind::Wrong(Wrong::IdentifierType) => ReasonKind::Foreign(Foreign::IdentifierType),
+        ReasonKind::Wrong(Wrong::IdentifierValue) => ReasonKind::Foreign(Foreign::IdentifierValue),
+        kind => kind,
     };
     Reason {
         kind,

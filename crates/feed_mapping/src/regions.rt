@@ -3,9 +3,9 @@
 ghost use Rattle.std.specs.Prelude.{◌≡◌, ◌++◌, ◌<◌, IfOk, IfSome, OnOk, length, map, option_map};
 ghost use Rattle.std.specs.List.{list_all, list_any};
 ghost use Rattle.feed_mapping.specs.Elements.{element_view};
-ghost use Rattle.feed_mapping.specs.Notes.{note_views, reason_view};
+ghost use Rattle.feed_mapping.specs.Notes.{note_views};
 ghost use Rattle.feed_mapping.specs.Regions.{IsRenamed, country_code, countries_written, is_other_name, other_names, spaced};
-ghost use Rattle.feed_mapping.specs.Territories.{region_notes, region_reason, word_notes};
+ghost use Rattle.feed_mapping.specs.Territories.{region_notes, word_notes};
 ghost use Rattle.feed_mapping.specs.declared.notes.Foreign.TheVariants.{CountryName};
 ghost use Rattle.onix_terms.specs.Territory.{words_of};
 ghost use Rattle.feed_mapping.specs.Regions.{first_region, first_space, front_to, is_two_letters, two_letters_in, is_capital_or_digit, is_part_of_country, is_world, names_world, other_regions, region_of_no_country, rest_from, IsNextWord};
@@ -144,18 +144,8 @@ pub(crate) fn region_of_no_country(text: &[u8]) -> Option<&[u8]>
     None
 }
 
-// Why a region is left out, which is of this kind; two letters are a country.
-fn region_reason<'a>(kind: Foreign, region: &'a [u8]) -> Reason<'a>
-    ensures { reason_view result ≡ region_reason kind region.now }
-{
-    if is_two_letters(region) {
-        Reason::wrong(Wrong::CountryAsRegion, region)
-    } else {
-        Reason::foreign(kind, region)
-    }
-}
-
-/// Adds a note on each of the regions but WORLD, as often as it stands there.
+/// Adds a note on each of the regions but WORLD, as often as it stands there; two letters are a
+/// country.
 pub(crate) fn push_regions<'a>(
     notes: &mut Vec<Note<'a>>,
     line: &'a Line,
@@ -168,10 +158,12 @@ pub(crate) fn push_regions<'a>(
     let mut rest = text;
     while let Some((region, behind)) = next_word(rest) {
         if !is_world(region) {
-            notes.push(Note {
-                line,
-                reason: region_reason(kind, region),
-            })?;
+            let reason = if is_two_letters(region) {
+                Reason::wrong(Wrong::CountryAsRegion, region)
+            } else {
+                Reason::foreign(kind, region)
+            };
+            push_note(notes, line, reason)?;
         }
         rest = behind;
     }

@@ -3,7 +3,7 @@
 
 ghost use Rattle.std.specs.Prelude.{◌≡◌, option_map};
 ghost use Rattle.feed_mapping.specs.PartyViews.{pair_view};
-ghost use Rattle.feed_mapping.specs.Strangers.{has_own_stranger, has_stranger_in, has_stranger_in_supply, is_strange_in_product, is_strange_in_supply};
+ghost use Rattle.feed_mapping.specs.Strangers.{has_own_stranger, has_stranger_in, has_stranger_in_supply};
 
 use crate::other_suppliers::is_of_other;
 use crate::parties::Pair;
@@ -27,42 +27,25 @@ pub(crate) fn has_stranger_in(name: &[u8], elements: &Elements<'_>) -> bool
     false
 }
 
-// Whether one counts that stands in an element of a ProductSupply: in a SupplyDetail of another than
-// the supplier that is named, where it might say whose it is.
-fn is_strange_in_supply(named: Option<Pair<'_>>, name: &[u8], below: &Elements<'_>) -> bool
-    ensures { result ≡ is_strange_in_supply (option_map pair_view named.entry) name.now below.now }
-{
-    if name == b"SupplyDetail".as_slice() && is_of_other(named, below) {
-        has_stranger_in(b"Supplier", below)
-    } else {
-        has_stranger(below)
-    }
-}
-
-// Whether one counts that stands in a ProductSupply.
+// Whether one counts that stands in a ProductSupply; in a SupplyDetail of another than the supplier
+// that is named, where it might say whose it is.
 fn has_stranger_in_supply(named: Option<Pair<'_>>, supply: &Elements<'_>) -> bool
     ensures { result ≡ has_stranger_in_supply (option_map pair_view named.entry) supply.now }
 {
     let mut rest = supply.copy();
     while let Some(node) = rest.first() {
         let name = node.line.name;
-        if name == STRANGER || is_strange_in_supply(named, name, &node.below) {
+        let is_strange = if name == b"SupplyDetail".as_slice() && is_of_other(named, &node.below) {
+            has_stranger_in(b"Supplier", &node.below)
+        } else {
+            has_stranger(&node.below)
+        };
+        if name == STRANGER || is_strange {
             return true;
         }
         rest = node.rest;
     }
     false
-}
-
-// Whether one counts that stands in an element of a Product.
-fn is_strange_in_product(named: Option<Pair<'_>>, name: &[u8], below: &Elements<'_>) -> bool
-    ensures { result ≡ is_strange_in_product (option_map pair_view named.entry) name.now below.now }
-{
-    if name == b"ProductSupply".as_slice() {
-        has_stranger_in_supply(named, below)
-    } else {
-        has_stranger(below)
-    }
 }
 
 /// Whether one counts that stands in a Product.
@@ -72,7 +55,12 @@ pub(crate) fn has_own_stranger(named: Option<Pair<'_>>, product: &Elements<'_>) 
     let mut rest = product.copy();
     while let Some(node) = rest.first() {
         let name = node.line.name;
-        if name == STRANGER || is_strange_in_product(named, name, &node.below) {
+        let is_strange = if name == b"ProductSupply".as_slice() {
+            has_stranger_in_supply(named, &node.below)
+        } else {
+            has_stranger(&node.below)
+        };
+        if name == STRANGER || is_strange {
             return true;
         }
         rest = node.rest;

@@ -6,7 +6,7 @@ ghost use Rattle.feed_mapping.specs.Markets.{IsFilled, supply_record, union_fiel
 ghost use Rattle.feed_mapping.specs.Notes.{note_views, reason_view, wrong};
 ghost use Rattle.feed_mapping.specs.PriceViews.{reason_read, text_view};
 ghost use Rattle.feed_mapping.specs.Records.{clean, first_some, parsed_term};
-ghost use Rattle.feed_mapping.specs.Territories.{AreRenamed, area_fields, area_in, area_reasons, area_reason, area_view, country_as_region, form_reasons, has_country, is_silent, market_of, region_alone, territory_notes, unsupported};
+ghost use Rattle.feed_mapping.specs.Territories.{AreRenamed, area_fields, area_in, area_reasons, area_reason, area_view, country_as_region, form_reasons, has_country, is_silent, market_of, territory_notes, unsupported};
 ghost use Rattle.feed_mapping.specs.declared.notes.Wrong.TheVariants as bad;
 ghost use Rattle.onix_records.specs.Fields.{territory_fields};
 ghost use Rattle.onix_records.specs.Gives.{Gives};
@@ -78,18 +78,6 @@ fn has_country(area: &Area<'_>) -> bool
     !area.included.is_empty() || names_world(area.regions_included)
 }
 
-// The first of the regions that are included, but for two letters, where neither a country nor the
-// world is.
-fn region_alone<'a>(area: &Area<'a>) -> Option<&'a [u8]>
-    ensures { option_map (λ r. r.now) result ≡ region_alone (area_view area.now) }
-{
-    if has_country(area) {
-        None
-    } else {
-        first_region(area.regions_included)
-    }
-}
-
 // Two letters among the regions, without which the territory would hold where it must not.
 fn country_as_region<'a>(area: &Area<'a>) -> Option<&'a [u8]>
     ensures { option_map (λ r. r.now) result ≡ country_as_region (area_view area.now) }
@@ -148,8 +136,10 @@ pub(crate) fn form_reason<'a>(area: &Area<'a>) -> Option<Reason<'a>>
 pub fn unsupported<'a>(area: &Area<'a>) -> Option<Reason<'a>>
     ensures { reason_read result ≡ unsupported (area_view area.now) }
 {
-    if let Some(text) = region_alone(area) {
-        return Some(Reason::foreign(Foreign::RegionAlone, text));
+    if !has_country(area) {
+        if let Some(text) = first_region(area.regions_included) {
+            return Some(Reason::foreign(Foreign::RegionAlone, text));
+        }
     }
     match region_of_no_country(area.regions_excluded) {
         Some(text) => Some(Reason::foreign(Foreign::RegionOfNoCountry, text)),

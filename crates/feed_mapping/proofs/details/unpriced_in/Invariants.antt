@@ -3,7 +3,7 @@ use Rattle.std.specs.Prelude.{codes}
 use Rattle.feed_mapping.specs.Details.{unpriced_price}
 use Rattle.feed_mapping.specs.Elements.{composites}
 use Rattle.feed_mapping.specs.Records.{first_some}
-use Rattle.feed_mapping.proofs.details.unpriced_prices.Given as goal
+use Rattle.feed_mapping.proofs.details.unpriced_in.Given as goal
 
 abbrev pub invariant-loop-price : goal.invariant-loop-price
 invariant-loop-price l =

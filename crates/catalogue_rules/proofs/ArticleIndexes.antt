@@ -66,7 +66,7 @@ module _ (listings : BTreeSet Listing) (m : ByReference) (p : Product) (lists_al
       there isbn q (eq_by_cmp (slice_cmp nat_cmp) q p.reference) refl
       (ap (is_of_article isbn) (sym (changes_at-with_entry m p.reference (entry_after (change_of p.notification) p (map.get m p.reference)) q)) ∙ h)
 
--- where each product of a message is listed, all records of the catalogue after it are
+-- if each product of a message is listed, all records of the catalogue after it are
 pub lists_message : (listings : BTreeSet Listing) (m : ByReference) (ps : List Product) → ListsAll listings m → All (λ p. ListsArticles listings p.reference p.ids) ps → ListsAll listings (after m ps)
 lists_message listings m [] lists_all listed = lists_all
 lists_message listings m (p ∷ ps) lists_all listed =

@@ -99,7 +99,7 @@ impl ArticleIndex {
     }
 
     /// Lists the products of a message, whatever they ask for, so that an index of a catalogue is
-    /// one of the catalogue after the message. Where memory runs out, it stays one of the
+    /// one of the catalogue after the message. If memory runs out, it stays one of the
     /// catalogue.
     pub fn list(&mut self, contents: &Contents) -> Result<(), AllocError>
         ensures ok { (m : ByReference) → IsIndexOf self.old m

@@ -154,7 +154,7 @@ impl Catalogue {
         Ok(())
     }
 
-    // Carries out the changes, which does not allocate where each new reference has its place.
+    // Carries out the changes, which does not allocate if each new reference has its place.
     fn apply_draft(&mut self, draft: EntryChanges<'_>)
         requires ready { (q : List ℕ) → IsReady (map.get self.old q) (map.get draft q) }
         requires few { EachHas (λ w. IfSome w HasFewDetails) draft }
@@ -170,7 +170,7 @@ impl Catalogue {
         }
     }
 
-    /// Applies a message: its products one after the other, or none of them where memory runs out.
+    /// Applies a message: its products one after the other, or none of them if memory runs out.
     /// Gives how many products did what.
     pub fn apply(&mut self, contents: &Contents) -> Result<Effect, AllocError>
         ensures ok { OnOk result (self.new ≡ after self.old contents.now) }

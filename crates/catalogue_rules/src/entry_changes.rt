@@ -56,7 +56,7 @@ impl<'a> EntryChanges<'a> {
         Ok(())
     }
 
-    /// Removes one change and gives it, or `None` where there is none.
+    /// Removes one change and gives it, or `None` if there is none.
     pub fn pop(&mut self) -> Option<(&'a str, Option<Entry>)>
         ensures none { IfNone result ((q : List ℕ) → map.get self.old q ≡ None) }
         ensures some { IfSome result (λ p. map.get self.old p.0.now ≡ Some p.1) }

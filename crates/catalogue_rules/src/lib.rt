@@ -1,6 +1,6 @@
 //! The catalogue of a series: its records by their references, what a message does to them, and the
 //! offers that they make of an article. A message is planned before anything is changed, so that
-//! the catalogue stays as it was where memory runs out. Each record has at most 20,000
+//! the catalogue stays as it was if memory runs out. Each record has at most 20,000
 //! SupplyDetails. An index tells which records may be of an article, so that not all have to be
 //! looked at.
 //!

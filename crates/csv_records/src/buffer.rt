@@ -87,7 +87,7 @@ impl RecordBuffer {
         self.len() == 0
     }
 
-    /// Adds a record of these fields. Where memory runs out, the records stay as they were.
+    /// Adds a record of these fields. If memory runs out, the records stay as they were.
     pub fn push_fields(&mut self, fields: &[&str]) -> Result<(), AllocError>
         ensures ok { OnOk result (self.new ≡ self.old ++ map (λ f. f.now) fields.now ∷ []) }
         ensures err { OnErr result (self.new ≡ self.old) }
@@ -98,7 +98,7 @@ impl RecordBuffer {
         Ok(())
     }
 
-    /// Adds a copy of a record. Where memory runs out, the records stay as they were.
+    /// Adds a copy of a record. If memory runs out, the records stay as they were.
     pub fn push(&mut self, from: &Record<'_>) -> Result<(), AllocError>
         ensures ok { OnOk result (self.new ≡ self.old ++ from.now ∷ []) }
         ensures err { OnErr result (self.new ≡ self.old) }
@@ -109,7 +109,7 @@ impl RecordBuffer {
         Ok(())
     }
 
-    // Adds a copy of a record that csv read. Where memory runs out, the records stay as they were.
+    // Adds a copy of a record that csv read. If memory runs out, the records stay as they were.
     pub(crate) fn push_read(&mut self, from: &StringRecord) -> Result<(), AllocError>
         ensures ok { OnOk result (self.new ≡ self.old ++ fields_of from.now ∷ []) }
         ensures err { OnErr result (self.new ≡ self.old) }

@@ -23,7 +23,7 @@ pub(crate) fn span(ends: &Vec<usize>, index: usize) -> (usize, usize)
 }
 
 // Adds ends of parts that began at `first`, as ends of parts that begin at `start`, all of them, or
-// none where memory runs out.
+// none if memory runs out.
 pub(crate) fn add_ends(
     ends: &mut Vec<usize>,
     added: &[usize],

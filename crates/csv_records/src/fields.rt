@@ -59,7 +59,7 @@ impl FieldBuffer {
         self.ends.len()
     }
 
-    /// Adds a field at the end. Where memory runs out, the fields stay as they were.
+    /// Adds a field at the end. If memory runs out, the fields stay as they were.
     pub fn push(&mut self, text: &str) -> Result<(), AllocError>
         ensures ok { OnOk result (self.new ≡ self.old ++ text.now ∷ []) }
         ensures err { OnErr result (self.new ≡ self.old) }
@@ -74,7 +74,7 @@ impl FieldBuffer {
         Ok(())
     }
 
-    /// Adds these fields at the end, all of them, or none where memory runs out.
+    /// Adds these fields at the end, all of them, or none if memory runs out.
     pub fn push_all(&mut self, fields: &[&str]) -> Result<(), AllocError>
         ensures ok { OnOk result (self.new ≡ self.old ++ map (λ f. f.now) fields.now) }
         ensures err { OnErr result (self.new ≡ self.old) }
@@ -89,7 +89,7 @@ impl FieldBuffer {
         Ok(())
     }
 
-    /// Adds the fields of a record at the end, all of them, or none where memory runs out.
+    /// Adds the fields of a record at the end, all of them, or none if memory runs out.
     pub fn push_record(&mut self, from: &Record<'_>) -> Result<(), AllocError>
         ensures ok { OnOk result (self.new ≡ self.old ++ from.now) }
         ensures err { OnErr result (self.new ≡ self.old) }
@@ -98,7 +98,7 @@ impl FieldBuffer {
     }
 
     // Adds the fields of another buffer from one index to before another, all of them, or none
-    // where memory runs out. Their bytes are copied at once.
+    // if memory runs out. Their bytes are copied at once.
     pub(crate) fn push_part(
         &mut self,
         from: &FieldBuffer,
@@ -122,7 +122,7 @@ impl FieldBuffer {
         Ok(())
     }
 
-    // Adds the fields of a record that csv read, all of them, or none where memory runs out.
+    // Adds the fields of a record that csv read, all of them, or none if memory runs out.
     pub(crate) fn push_read(&mut self, from: &StringRecord) -> Result<(), AllocError>
         ensures ok { OnOk result (self.new ≡ self.old ++ fields_of from.now) }
         ensures err { OnErr result (self.new ≡ self.old) }

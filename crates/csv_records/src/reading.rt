@@ -92,7 +92,7 @@ impl<'a> RecordReader<'a> {
     }
 
     /// Reads the next record in place of what `into` held, or tells that there is none. One `into`
-    /// serves all records of a text. Where memory runs out, the reader has no records left.
+    /// serves all records of a text. If memory runs out, the reader has no records left.
     pub fn read(&mut self, into: &mut StringRecord) -> Result<bool, AllocError>
         ensures found { IfOk result
             (λ found. found ≡ true → self.old ≡ fields_of into.new ∷ self.new) }
@@ -117,7 +117,7 @@ impl<'a> RecordReader<'a> {
     }
 }
 
-/// Adds a copy of a record that was read. Where memory runs out, the records stay as they were.
+/// Adds a copy of a record that was read. If memory runs out, the records stay as they were.
 /// It is no call of the buffer, so that a crate that names that type has nothing of `csv` to load.
 pub fn push_read(buffer: &mut RecordBuffer, from: &StringRecord) -> Result<(), AllocError>
     ensures ok { OnOk result (buffer.new ≡ buffer.old ++ fields_of from.now ∷ []) }
@@ -142,7 +142,7 @@ fn append_each(
     Ok(())
 }
 
-// Adds all records that a reader has left. Where memory runs out, the buffer's records stay as they
+// Adds all records that a reader has left. If memory runs out, the buffer's records stay as they
 // were, and how many the reader has left is not said.
 fn append_records(
     alloc: Global,
@@ -160,7 +160,7 @@ fn append_records(
     Ok(())
 }
 
-/// Adds the records of a text of any length. Where memory runs out, the buffer's records stay as
+/// Adds the records of a text of any length. If memory runs out, the buffer's records stay as
 /// they were.
 pub fn append_text(alloc: Global, buffer: &mut RecordBuffer, text: &str) -> Result<(), AllocError>
     ensures ok { OnOk result (buffer.new ≡ buffer.old ++ records_of text.now) }

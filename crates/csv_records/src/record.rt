@@ -67,7 +67,7 @@ impl<'a> Record<'a> {
         self.fields.bytes_of(self.start, self.end)
     }
 
-    // Adds the fields to others, all of them, or none where memory runs out.
+    // Adds the fields to others, all of them, or none if memory runs out.
     pub(crate) fn copy_to(&self, to: &mut FieldBuffer) -> Result<(), AllocError>
         ensures ok { OnOk result (to.new ≡ to.old ++ self.now) }
         ensures err { OnErr result (to.new ≡ to.old) }
@@ -99,7 +99,7 @@ impl<'a> Record<'a> {
     }
 
     /// Puts the fields into a list, in place of what it held, so that they can be taken apart by a
-    /// pattern. One list serves all records of a text. Where memory runs out, what the list holds
+    /// pattern. One list serves all records of a text. If memory runs out, what the list holds
     /// is not said.
     pub fn fill(&self, list: &mut Vec<&'a str>) -> Result<(), AllocError>
         ensures { OnOk result (map (λ f. f.now) list.new.items ≡ self.now) }

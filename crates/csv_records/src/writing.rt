@@ -41,7 +41,7 @@ fn write_each(alloc: Global, records: &Records<'_>) -> Result<Vec<u8>, AllocErro
     let mut fields = Vec::new(alloc);
     for i in 0..records.len() {
         fill_bytes(&records.record(i), &mut fields)?;
-        // A write to a vector fails only where memory runs out.
+        // A write to a vector fails only if memory runs out.
         let Ok(()) = writer.write_fields(fields.as_slice()) else {
             return Err(AllocError);
         };

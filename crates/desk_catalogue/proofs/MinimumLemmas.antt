@@ -123,7 +123,7 @@ held_without_minimums series m rows held none = λ q.
     (any_within (is_minimum_of series q) (is_minimum_in series) rows.minimums
     (λ r. of_series (bytes_eq r.series series) (bytes_eq r.reference q)) none)
 
--- and where no price of a catalogue has one, the tables have none of its records
+-- and if no price of a catalogue has one, the tables have none of its records
 pub records_without_minimums : (series reference : List ℕ) (m : ByReference) (rows : DeskRows)
     → HoldsCatalogue series m rows → EachHas HasNoMinimums m
     → has_minimums_of series reference rows ≡ false

@@ -93,7 +93,7 @@ pub first_new : (m : ByReference) (p : Product) (ps : List Product) → 0 < leng
 first_new m p [] some is new = absurd (omega (arith, some))
 first_new m p (q ∷ ps) some is new = (subst (IsNew m) is new, tt)
 
--- one more behind them, of another reference
+-- one more after them, of another reference
 pub new_behind : (m : ByReference) (ps : List Product) (p : Product) → AreNew m ps → IsNew m p → list_any (λ q. bytes_eq q.reference p.reference) ps ≡ false → AreNew m (ps ++ p ∷ [])
 new_behind m [] p new one none = (one, tt)
 new_behind m (q ∷ ps) p new one none =

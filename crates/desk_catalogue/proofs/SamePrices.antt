@@ -51,7 +51,7 @@ module _ (A : Type 0) (rest : List (List Price)) (supplies : List ProductSupply)
     λ e. stands.1 (sym (take-append-drop n rest) ∙ ap (λ l. l ++ drop n rest) same ∙ ap (λ l. own_prices s ++ l) (sym (take_rest rest n) ∙ e) ∙ sym left-is),
   )
 
--- where no supply is left, what was read is the same if none of it is left
+-- if no supply is left, what was read is the same if none of it is left
 no-length : (xs : List (List Price)) → (length xs == 0) ≡ true → xs ≡ []
 no-length [] e = refl
 no-length (x ∷ xs) e = let none = eqb-true (length (x ∷ xs)) 0 e in absurd (omega (arith, none))

@@ -83,7 +83,7 @@ AreReadAs with_minimums offers rows = with_minimums ≡ false
     → All (λ (offer : typed.OfferRow). has_minimums_of offer.series offer.reference rows ≡ false)
     offers
 
--- where no minimums are asked for, the record has none
+-- if no minimums are asked for, the record has none
 abbrev pub IsReadAs : Bool → RecordRow → DeskRows → Type 0
 IsReadAs with_minimums row rows = with_minimums ≡ false
     → has_minimums_of row.series row.reference rows ≡ false

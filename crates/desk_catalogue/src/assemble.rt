@@ -45,7 +45,7 @@ fn detail(row: &OfferRow, prices: &Items<Price>) -> Result<SupplyDetail, AllocEr
     })
 }
 
-// Adds a SupplyDetail to the last supply. `Unusable` where there is none.
+// Adds a SupplyDetail to the last supply. `Unusable` if there is none.
 fn join(supplies: &mut Items<ProductSupply>, detail: SupplyDetail) -> Result<(), StoreFault>
     ensures { OnOk result (supplies.new ≡ joined supplies.old detail) }
 {
@@ -123,7 +123,7 @@ fn group(
 
 /// The entry of the rows of its identifiers and of its offers, in order of their places, with the
 /// prices of each offer. `Unusable` where rows are those of no entry that a message can write, and
-/// `Memory` where memory runs out.
+/// `Memory` if memory runs out.
 pub fn entry_of(
     alloc: Global,
     articles: &[ArticleRow],

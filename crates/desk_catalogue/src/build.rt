@@ -44,7 +44,7 @@ fn article(
     })
 }
 
-/// Adds the rows of the identifiers of a record, with places from 1. `Memory` where memory runs out,
+/// Adds the rows of the identifiers of a record, with places from 1. `Memory` if memory runs out,
 /// and `Size` where the places run out.
 pub fn add_article_rows(
     alloc: Global,
@@ -69,7 +69,7 @@ pub fn add_article_rows(
     Ok(())
 }
 
-/// The rows of the identifiers of a record, with places from 1. `Memory` where memory runs out, and
+/// The rows of the identifiers of a record, with places from 1. `Memory` if memory runs out, and
 /// `Size` where the places run out.
 pub fn article_rows(
     alloc: Global,
@@ -147,7 +147,7 @@ fn add_supply_offers(
 }
 
 /// Adds the rows of the offers of a record, with places from 1 over all its supplies, whose numbers
-/// count from 1. `Memory` where memory runs out, and `Size` where the places run out.
+/// count from 1. `Memory` if memory runs out, and `Size` where the places run out.
 pub fn add_offer_rows(
     alloc: Global,
     series: &SeriesName,
@@ -260,7 +260,7 @@ fn add_supply_prices(
 }
 
 /// Adds the rows of the prices of a record, each with the place of its offer and its own, from 1.
-/// `Memory` where memory runs out, and `Size` where the places run out.
+/// `Memory` if memory runs out, and `Size` where the places run out.
 pub fn add_price_rows(
     alloc: Global,
     series: &SeriesName,

@@ -128,7 +128,7 @@ trait ProductRow: Drop {
     // The rows of a product of the series.
     ghost rows_of: { List ℕ → Product → List Self };
 
-    // Adds them. `Memory` where memory runs out, and `Size` where places of rows do.
+    // Adds them. `Memory` if memory runs out, and `Size` where places of rows do.
     fn add_rows_of(
         alloc: Global,
         series: &SeriesName,

@@ -217,7 +217,7 @@ module _ (law : ReadsBack) (L : List Request) (a : Agreement) (own : named (agre
   agrees_not M n Waived = refl
 
   module _ (M0 : List Request) (by_name : named (agreements_of M0) a.name ≡ Some a) (by_parties : between (agreements_of M0) a.sender a.addressee ≡ Some a) where
-    -- nothing stands at the number
+    -- nothing is at the number
     nothing : (from : ℕ) (M : List Request) → Filled M0 from M → first_at L a.name from ≡ None → Filled M0 (from + 1) M
     nothing from M f none = record {
       agreements = f.agreements;

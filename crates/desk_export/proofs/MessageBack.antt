@@ -49,7 +49,7 @@ plain-opens = refl
 abbrev opening : Party → Option Party → ℕ → Opening
 opening sender addressee n = record { form = form.Two; header = numbered_header sender addressee n }
 
--- A record behind it is the row that it is behind every record of form 2 without defaults.
+-- A record after it is the row that it is behind every record of form 2 without defaults.
 
 price-alike : (s : Party) (d : Option Party) (n : ℕ) (fields : Fields) → price_of (opening s d n) fields ≡ price_of plain fields
 unfolding price_of price_from

@@ -55,7 +55,7 @@ module _ {T : Type 0} (takes part : T → T → List ℕ → Type 0) where
   none_taken a [] = refl
   none_taken a (t ∷ ts) = inl refl
 
-  -- and others behind them
+  -- and others after them
   some_more : (a b : T) (ts us : List (List ℕ)) → TakesSome takes part a b ts → TakesSome takes part a b (ts ++ us)
   some_more a b [] us none = subst (λ x. TakesSome takes part a x us) (sym none) (none_taken a us)
   some_more a b (t ∷ ts) us (inl none) = inl none
@@ -192,7 +192,7 @@ between all before here behind are = (
       ∙ append_assoc (texts_of before) (texts_of here) (texts_of behind),
 )
 
--- the requests at one number, between those before it and those behind it
+-- the requests at one number, between those before it and those after it
 pub range_around : (L : List Request) (a : Agreement) (from n end m : ℕ) → from ≤ n → n < end → m ≡ n
     → (rest : List (List ℕ)) × (texts_of (requests_from L a from (end - from)) ≡ texts_of (requests_from L a from (n - from)) ++ (texts_of (requests_at a m (first_at L a.name m)) ++ rest))
 range_around L a from n end m le lt is =
@@ -323,7 +323,7 @@ texts_more each i a as' at =
     ∙ flat_map-append each (take i as') (a ∷ [])
     ∙ ap (λ texts. flat_map each (take i as') ++ texts) (append-nil (each a))
 
--- what is listed of one, between what is of those before it and of those behind it
+-- what is listed of one, between what is of those before it and of those after it
 texts_around : (each : Agreement → List (List ℕ)) (i : ℕ) (a : Agreement) (as' : List Agreement) → slice_get as' i ≡ Some a
     → (rest : List (List ℕ)) × (flat_map each as' ≡ flat_map each (take i as') ++ (each a ++ rest))
 texts_around each i a [] e = absurd cc

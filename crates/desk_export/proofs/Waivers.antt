@@ -1,4 +1,4 @@
--- What stands at a number is told by its text: a message or a waiver.
+-- What is at a number is told by its text: a message or a waiver.
 use Rattle.std.proofs.Common.{◌≡◌, ◌∷◌, ◌∙◌, [], ℕ, List, true, false, codes, arith, sym, ap}
 use Rattle.std.specs.Str.{bytes_eq}
 use Rattle.std.proofs.lemmas.Slice.Eq.{bytes_eq-Decides}

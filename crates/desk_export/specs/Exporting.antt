@@ -50,7 +50,7 @@ abbrev pub end_after : ℕ → Option ℕ → ℕ
 end_after first None = first
 end_after first (Some g) = g + 1
 
--- what puts anew what stands at the numbers of a series from one on up to an end, without those of
+-- what puts anew what is at the numbers of a series from one on up to an end, without those of
 -- these ranges
 abbrev pub requests_between : List Request → Agreement → ℕ → List (ℕ × ℕ) → ℕ → List Request
 requests_between L a from [] end = requests_from L a from (end - from)

@@ -27,12 +27,12 @@ abbrev pub requests_at : Agreement → ℕ → Option Standing → List Request
 requests_at a n None = []
 requests_at a n (Some h) = request_for a n h ∷ []
 
--- what puts anew what stands at so many numbers of an agreed series, from one on
+-- what puts anew what is at so many numbers of an agreed series, from one on
 abbrev pub requests_from : List Request → Agreement → ℕ → ℕ → List Request
 requests_from L a from len =
     flat_map (λ n. requests_at a n (first_at L a.name n)) (range_with_len from len)
 
--- the requests of an agreed series: its agreement, and then what stands at each number, in order
+-- the requests of an agreed series: its agreement, and then what is at each number, in order
 abbrev pub series_requests : List Request → Agreement → List Request
 series_requests L a =
     Agree a ∷ requests_from L a a.first (numbers_up_to a.first (greatest_of L a.name))

@@ -57,7 +57,7 @@ pub(crate) fn take_text<T: TakesTexts>(
     }
 }
 
-// Exports what stands at a number of an agreed series.
+// Exports what is at a number of an agreed series.
 fn export_number<D: ListedDesk, T: TakesTexts>(
     alloc: Global,
     desk: &mut D,
@@ -86,7 +86,7 @@ fn export_number<D: ListedDesk, T: TakesTexts>(
     take_text(taker, text.as_str())
 }
 
-// Exports what stands at the numbers of an agreed series from one on, up to an end.
+// Exports what is at the numbers of an agreed series from one on, up to an end.
 fn export_range<D: ListedDesk, T: TakesTexts>(
     alloc: Global,
     desk: &mut D,
@@ -118,7 +118,7 @@ fn end_of(report: &GapReport) -> u32
     }
 }
 
-// Exports what stands at the numbers of an agreed series, without those that are missing.
+// Exports what is at the numbers of an agreed series, without those that are missing.
 fn export_held<D: ListedDesk, T: TakesTexts>(
     alloc: Global,
     desk: &mut D,
@@ -154,7 +154,7 @@ pub(crate) fn take_agreement<T: TakesTexts>(
     take_text(taker, text.as_str())
 }
 
-/// Exports an agreed series: its agreement, and then what stands at each number, in order.
+/// Exports an agreed series: its agreement, and then what is at each number, in order.
 pub(crate) fn export_series<D: ListedDesk, T: TakesTexts>(
     alloc: Global,
     desk: &mut D,

@@ -37,7 +37,7 @@ pub fn export_is_true()
     messages_read_back();
 }
 
-/// The text of an export is read as the requests of the export, where each agreement and each
+/// The text of an export is read as the requests of the export, if each agreement and each
 /// waiver of the list that is exported can be written. So a batch of that text makes, of nothing,
 /// what comes to the same as the list, and so do its parts, asked one after the other.
 pub fn export_is_read()

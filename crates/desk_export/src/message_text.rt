@@ -1,4 +1,4 @@
-//! Messages as text, of what stands at their numbers.
+//! Messages as text, of what is at their numbers.
 
 ghost use Rattle.std.specs.Prelude.{◌≡◌, ◌∷◌, ◌++◌, [], IfOk, List, OnOk};
 ghost use Rattle.std.specs.String.{string_bytes};
@@ -85,7 +85,7 @@ fn frame(
 }
 
 /// The text of the message that has these contents, by their text: form 2, with the parties of the
-/// agreement and that number, sent once, without defaults. Fails only where memory runs out.
+/// agreement and that number, sent once, without defaults. Fails only if memory runs out.
 pub(crate) fn write_message(
     alloc: Global,
     agreement: &Agreement,

@@ -62,7 +62,7 @@ fn push_waiver(
     Ok(())
 }
 
-/// The text of the request for an agreement. Fails only where memory runs out.
+/// The text of the request for an agreement. Fails only if memory runs out.
 pub fn write_agreement(alloc: Global, agreement: &Agreement) -> Result<String, AllocError>
     ensures { IfOk result
         (λ text. string_bytes text ≡ request_text (Request.Agree agreement.now)) }
@@ -90,7 +90,7 @@ fn is_waived(text: &str) -> bool
 }
 
 /// The text of the request that puts at a number of an agreed series what has this text there.
-/// Fails only where memory runs out.
+/// Fails only if memory runs out.
 pub fn write_standing(
     alloc: Global,
     agreement: &Agreement,

@@ -70,7 +70,7 @@ adding_then {A} {B} {f} {g} {h} {old} {mid} {new} {a} {r} first second = record 
     kept_then : KeepsCommit old mid → KeepsCommit mid new → KeepsCommit old new
     kept_then p q = record { was_open = λ o. p.was_open (q.was_open o); committed = λ o. q.committed o ∙ p.committed (q.was_open o) }
 
--- a fault of a statement behind those
+-- a fault of a statement after those
 pub refused_behind : {A B : Type 0} {f g h k : DeskRows → DeskRows} {old mid new : State} {a : A} {r : Result B StoreFault} → Adding f g old mid (Ok a) → Adding h k mid new r → IsRefusedOrUnasked mid new r → IsRefusedOrUnasked old new r
 refused_behind {r = Ok b} first second refused clean = tt
 refused_behind {old = old} {mid} {new} {r = Err e} first second refused clean = elim (refused clean) [
@@ -137,7 +137,7 @@ adds_done a same unspent still adds = record {
   adds = adds;
 }
 
--- a statement behind those had a fault
+-- a statement after those had a fault
 pub adds_failed : {S A B C : Type 0} {store : Ghosts S} {f g h k : DeskRows → DeskRows} {old mid new : Work S} {sql : List ℕ} {params : Row} {a : A} {e : StoreFault} {r : Result B StoreFault} → r ≡ Err e → mid.tables.ghost_name ≡ old.tables.ghost_name → old.spent ≡ false
     → Adding f g (seen store old) (seen store mid) (Ok a) → Runs {A = C} store sql params mid new (Err e) → Adding {A = C} g k (seen store mid) (seen store new) (Err e) → AddsBetween store f h old new r
 adds_failed {S} {A} {B} {C} {store} {f} {g} {h} {k} {old} {mid} {new} {sql} {params} {a} {e} is same unspent first ran second =

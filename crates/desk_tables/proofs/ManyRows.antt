@@ -97,7 +97,7 @@ put_none PriceMinimum rows = λ i. record rows { minimums = append-nil rows.mini
 pub mapped_behind : {A B : Type 0} (f : A → B) (base : List B) (xs ys : List A) → (base ++ map f xs) ++ map f ys ≡ base ++ map f (xs ++ ys)
 mapped_behind f base xs ys = append_assoc base (map f xs) (map f ys) ∙ ap (λ l. base ++ l) (sym (map-append f xs ys))
 
--- rows behind those that were put
+-- rows after those that were put
 put_behind : (t : CatalogueTable) (xs ys : List (RowOf t)) (rows : DeskRows) → with_rows t ys (with_rows t xs rows) ≡ with_rows t (xs ++ ys) rows
 put_behind Record xs ys rows = λ i. record rows { records = append_assoc rows.records xs ys i }
 put_behind Article xs ys rows = λ i. record rows { articles = append_assoc rows.articles xs ys i }

@@ -78,7 +78,7 @@ InsertsRows store t values old new result =
     (xs : List (RowOf t)) → values ≡ flat_map (columns_of t) xs
     → AddsAll store (with_rows t xs) old new result
 
--- the same where memory sufficed for the values
+-- the same if memory sufficed for the values
 abbrev pub InsertsValues : {S A V E : Type 0} → Ghosts S → CatalogueTable → Result V E → (V → Row)
     → Work S → Work S → Result A StoreFault → Type 0
 InsertsValues store t values row_of old new result =

@@ -2,7 +2,7 @@
 use Rattle.std.specs.Prelude.{ℕ, List, [], Option, None, Some}
 use Rattle.onix_terms.specs.declared.party.Party.{Party}
 
--- both are empty where there is none
+-- both are empty if there is none
 abbrev pub party_type : Option Party → List ℕ
 party_type None = []
 party_type (Some party) = party.id_type

@@ -34,7 +34,7 @@ column_text c =
     name_of c ++ (if is_text c then codes " TEXT" else codes " INTEGER")
     ++ (if may_be_null c then [] else codes " NOT NULL")
 
--- a key of one column, and a reference of one column, stand behind the first
+-- a key of one column, and a reference of one column, stand after the first
 abbrev pub primary_behind : ℕ → List ℕ
 primary_behind (suc zero) = codes " PRIMARY KEY"
 primary_behind _ = []
@@ -48,7 +48,7 @@ column_texts key foreign [] = []
 column_texts key foreign (c ∷ more) =
     (column_text c ++ foreign_behind foreign ++ primary_behind key) ∷ map column_text more
 
--- those of more columns stand behind all columns
+-- those of more columns stand after all columns
 abbrev pub primary_texts : ℕ → List (List ℕ) → List (List ℕ)
 primary_texts key names =
     if nat_lt 1 key

@@ -31,7 +31,7 @@ impl<S: Alter> Work<'_, S> {
         self.select(SERIES_ROWS, &[])
     }
 
-    /// Adds a record. `Unusable` where the series has it, or where no series has that name.
+    /// Adds a record. `Unusable` where the series has it, or if no series has that name.
     pub fn add_record(&mut self, series: &SeriesName, reference: &str) -> Result<(), StoreFault>
         ensures { Adds S.Store
             (with_new_record (record { series = series.now; reference = reference.now }))
@@ -41,7 +41,7 @@ impl<S: Alter> Work<'_, S> {
     }
 
     /// Sees to it that the series has the record: adds its row, or nothing where it is there.
-    /// `Unusable` where no series has that name.
+    /// `Unusable` if no series has that name.
     pub fn put_record(&mut self, series: &SeriesName, reference: &str) -> Result<(), StoreFault>
         ensures { Adds S.Store
             (with_record (record { series = series.now; reference = reference.now }))

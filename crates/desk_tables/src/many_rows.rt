@@ -106,7 +106,7 @@ impl<S: Alter> Work<'_, S> {
         self.insert_each(table, false, 8 * eights, count, values)
     }
 
-    // Puts the rows of these values, where memory sufficed for them.
+    // Puts the rows of these values, if memory sufficed for them.
     pub(crate) fn insert_values(
         &mut self,
         table: CatalogueTable,

@@ -38,7 +38,7 @@ records_behind size rest = do
   body ← body_of size rest
   records_in body
 
--- the records that a POST delivers, by its head and the bytes behind it
+-- the records that a POST delivers, by its head and the bytes after it
 unfoldable pub records_posted : RequestHead → List ℕ → Result (List (List (List ℕ))) Refusal
 records_posted h rest = do
   size ← size_asked h

@@ -10,7 +10,7 @@ abbrev pub ◌>>=◌ : {A B : Type 0} → Result A Refusal → (A → Result B R
 (Ok x) >>= f = f x
 (Err why) >>= f = Err why
 
--- the value, or that refusal where there is none
+-- the value, or that refusal if there is none
 abbrev pub or_refuse : {A : Type 0} → Refusal → Option A → Result A Refusal
 or_refuse why None = Err why
 or_refuse why (Some x) = Ok x

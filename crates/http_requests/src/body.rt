@@ -20,7 +20,7 @@ use std::io::Read;
 // The initial capacity for a body, in bytes.
 const FIRST_ROOM: usize = 16384;
 
-// Makes room behind the filled bytes of a body, where there is none: twice as much, as far as the
+// Makes room behind the filled bytes of a body, if there is none: twice as much, as far as the
 // body goes. So memory grows with the bytes that a client sends, whatever its Content-Length says.
 fn make_room(body: &mut Vec<u8>, filled: usize, size: usize) -> Result<(), AllocError>
     requires most { size ≤ limit }
@@ -117,7 +117,7 @@ fn read_body_records<R: Read>(
     records_in(alloc, body.as_slice())
 }
 
-/// The records that a POST delivers, by its head, the bytes that were read behind it and those that
+/// The records that a POST delivers, by its head, the bytes that were read after it and those that
 /// follow in the input. It never reads past the body, and nothing where the head is refused.
 pub fn read_posted<R: Read>(
     alloc: Global,

@@ -5,7 +5,7 @@ ghost use Rattle.std.specs.Io.KnownBytes.{Consumes, IsAtEnd, Keeps};
 
 use std::io::{self, Read};
 
-/// One read into the buffer behind the first `filled` bytes, and how many are filled then.
+/// One read into the buffer after the first `filled` bytes, and how many are filled then.
 pub(crate) fn read_once<R: Read>(
     reader: &mut R,
     buffer: &mut [u8],

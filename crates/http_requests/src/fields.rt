@@ -19,7 +19,7 @@ fn is_named(name: &[u8], wanted: &[u8]) -> bool
     name.eq_ignore_ascii_case(wanted)
 }
 
-/// The value of the only field of this name. Where there are several, `why` refuses them.
+/// The value of the only field of this name. If there are several, `why` refuses them.
 pub(crate) fn only_value<'b>(
     bytes: &'b [u8],
     spans: &[HeaderSpan],

@@ -52,7 +52,7 @@ impl Head {
         &self.bytes[self.parts.len..self.filled]
     }
 
-    /// The value of the only field of a name, `None` where there is none. Where there are several,
+    /// The value of the only field of a name, `None` if there is none. If there are several,
     /// `why` refuses them.
     pub(crate) fn only_field(&self, name: &[u8], why: Refusal) -> Result<Option<&[u8]>, Refusal>
         ensures one { (h : RequestHead) → IsHeadOf self.now h → IfOk result (λ found.

@@ -66,7 +66,7 @@ fn records_of_contents(alloc: Global, products: &[Product]) -> Result<RecordBuff
 }
 
 /// The contents text: one record for each part, in order, with each value written in its one
-/// way. Fails only where memory runs out.
+/// way. Fails only if memory runs out.
 #[tactic(auto, unfolding(onix_records::specs::ContentsText::contents_text))]
 pub fn write_contents(alloc: Global, contents: &Contents) -> Result<String, AllocError>
     ensures { IfOk result (λ text. string_bytes text ≡ contents_text contents.now) }
@@ -124,8 +124,8 @@ fn read_framed(alloc: Global, text: &str) -> Result<Contents, ContentsFault>
     }
 }
 
-/// The contents that have this text. `NotContents` exactly where no contents have it; `Memory`
-/// where memory ran out.
+/// The contents that have this text. `NotContents` exactly if no contents have it; `Memory`
+/// if memory ran out.
 pub fn read_contents(alloc: Global, text: &str) -> Result<Contents, ContentsFault>
     ensures contents { IfOk result (λ c. IsContents c × (contents_text c ≡ text.now)) }
     ensures none { IsErrOf result ContentsFault.NotContents → (c : List Product) → IsContents c

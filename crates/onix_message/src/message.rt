@@ -105,7 +105,7 @@ fn read_products<'a>(
 }
 
 /// Reads a message. `Malformed` exactly where the records are none, with the row at which they
-/// stop being one; `Memory` where memory ran out.
+/// stop being one; `Memory` if memory ran out.
 pub fn read_message(
     alloc: Global,
     records: &Records<'_>,

@@ -1,4 +1,4 @@
--- Fields are clean where none is too long and their bytes, one after the other, have no control character.
+-- Fields are clean if none is too long and their bytes, one after the other, have no control character.
 use Rattle.std.proofs.Common.{◌≡◌, ◌∷◌, ◌∙◌, [], ℕ, Bool, List, Bor, true, false, ap, refl, sym, length, map}
 use Rattle.std.specs.Prelude.{◌&&◌, nat_le, not}
 use Rattle.std.specs.List.{flat_map, list_all}

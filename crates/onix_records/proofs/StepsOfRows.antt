@@ -1,4 +1,4 @@
--- What a step is where a row of one kind was read, and where none was.
+-- What a step is where a row of one kind was read, and if none was.
 use Rattle.std.proofs.Common.{◌≡◌, ℕ, true, refl}
 use Rattle.std.specs.Prelude.{Option, Some, None, Result, Ok, Err, IfErr, OnOk, option_map}
 use Rattle.std.specs.Result.{IsErrAnd}

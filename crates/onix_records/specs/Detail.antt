@@ -29,7 +29,7 @@ detail_from role id_type id_value name availability unpriced = do
     prices = [];
   })
 
--- a supplier, an availability and, where there is one, an UnpricedItemType
+-- a supplier, an availability and, if there is one, an UnpricedItemType
 unfoldable pub detail_of : List (List ℕ) → Option SupplyDetail
 detail_of (role ∷ id_type ∷ id_value ∷ name ∷ availability ∷ unpriced ∷ []) =
     detail_from role id_type id_value name availability unpriced

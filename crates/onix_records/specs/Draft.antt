@@ -74,12 +74,12 @@ abbrev pub Refuses : Draft → Row → RowFault → Type 0
 Refuses old r fault.Wrong = allows old.part r ≡ false
 Refuses old r fault.Memory = ⊤
 
--- closing to a product is refused where no supply may come
+-- closing to a product is refused if no supply may come
 abbrev pub RefusesSupply : Part → RowFault → Type 0
 RefusesSupply o fault.Wrong = (s : ProductSupply) → allows o (row.ProductSupply s) ≡ false
 RefusesSupply o fault.Memory = ⊤
 
--- closing all products is refused where neither a product nor the end may come
+-- closing all products is refused if neither a product nor the end may come
 abbrev pub RefusesProduct : Part → RowFault → Type 0
 RefusesProduct o fault.Wrong =
     ((p : Product) → allows o (row.Product p) ≡ false)
@@ -105,7 +105,7 @@ Stops found old before fault.Wrong =
     (r : Row) → found ≡ Some r → is_counted r before ≡ true → allows old.part r ≡ true → ⊥
 Stops found old before fault.Memory = ⊤
 
--- a row was added where one was found that may come next
+-- a row was added if one was found that may come next
 abbrev pub Steps : Result (Unit {0}) RowFault → Option Row → Draft → ℕ → Draft → Type 0
 Steps (Ok u) found old before new = Takes found old before new
 Steps (Err e) found old before new = Stops found old before e

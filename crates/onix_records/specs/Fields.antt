@@ -53,7 +53,7 @@ optional_party id_type id_value = option_map Some (party_of id_type id_value)
 
 -- How they are written.
 
--- a party's type and value, both empty where there is none
+-- a party's type and value, both empty if there is none
 abbrev pub party_fields : Option Party → List (List ℕ)
 party_fields None = [] ∷ [] ∷ []
 party_fields (Some p) = p.id_type ∷ p.id_value ∷ []

@@ -85,7 +85,7 @@ fn fill_detail(fields: &mut FieldBuffer, detail: &SupplyDetail) -> Result<(), Al
     push_optional_code(fields, &detail.unpriced)
 }
 
-// Appends the records of a detail: its own, and those of its prices. Where memory runs out, the
+// Appends the records of a detail: its own, and those of its prices. If memory runs out, the
 // records stay as they were.
 #[tactic(auto, unfolding(crate::specs::Detail::detail_records))]
 pub(crate) fn append_detail(

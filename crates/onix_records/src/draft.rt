@@ -55,7 +55,7 @@ fn close_supply(mut product: Product, supply: ProductSupply) -> Result<Product, 
     Ok(product)
 }
 
-// The product with the supply and the detail that stood open, where there is such a detail.
+// The product with the supply and the detail that stood open, if there is such a detail.
 fn close_last(
     product: Product,
     supply: ProductSupply,
@@ -164,7 +164,7 @@ pub(crate) fn add_end(draft: &mut Draft, count: u32) -> Result<(), RowFault>
     Ok(())
 }
 
-// The supply takes the place of the one that stood open, which joins those of its product with this
+// The supply replaces the one that stood open, which joins those of its product with this
 // detail.
 fn next_supply(
     product: &mut Product,

@@ -59,7 +59,7 @@ fn are_short(fields: &[&str]) -> bool
 }
 
 /// Puts the fields of a record into a list, in place of what it held. A record is `Wrong` exactly
-/// where one of its fields has more than 1,024 bytes or a control character.
+/// if one of its fields has more than 1,024 bytes or a control character.
 pub fn read_fields<'a>(from: &Record<'a>, fields: &mut Vec<&'a str>) -> Result<(), RowFault>
     ensures fields { OnOk result (map (λ f. f.now) fields.new.items ≡ from.now) }
     ensures clean { OnOk result (list_all is_clean from.now ≡ true) }
@@ -125,7 +125,7 @@ pub(crate) fn read_territory(
     }
 }
 
-// Appends the two fields of a party, both empty where there is none.
+// Appends the two fields of a party, both empty if there is none.
 pub(crate) fn push_party(fields: &mut FieldBuffer, party: &Option<Party>) -> Result<(), AllocError>
     ensures { OnOk result (fields.new ≡ fields.old ++ party_fields party.now) }
 {
@@ -141,7 +141,7 @@ pub(crate) fn push_party(fields: &mut FieldBuffer, party: &Option<Party>) -> Res
     }
 }
 
-/// Appends the field of an amount, which is empty where there is none.
+/// Appends the field of an amount, which is empty if there is none.
 pub fn push_amount(
     alloc: Global,
     fields: &mut FieldBuffer,
@@ -155,7 +155,7 @@ pub fn push_amount(
     }
 }
 
-/// Appends the field of a day, which is empty where there is none.
+/// Appends the field of a day, which is empty if there is none.
 pub fn push_day(alloc: Global, fields: &mut FieldBuffer, day: Option<Day>) -> Result<(), AllocError>
     ensures { OnOk result (fields.new ≡ fields.old ++ option_map_or day_text day [] ∷ []) }
 {

@@ -14,7 +14,7 @@ use onix_terms::laws::{
 };
 
 /// The message that is computed of records is the one that they are by the grammar: there is
-/// no other, and where none is computed they are none. A message is a front, and of the fronts
+/// no other, and if none is computed they are none. A message is a front, and of the fronts
 /// just those are messages whose last row is an `EndMessage`.
 pub fn messages()
     ensures computed { (records : List (List (List ℕ))) (h : Header) (c : List Product)

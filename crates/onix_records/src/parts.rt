@@ -45,9 +45,9 @@ pub struct Price {
     pub currency: Currency,
     pub territory: Territory,
     pub minimum: Quantity,
-    /// The first day on which it holds, where there is one.
+    /// The first day on which it holds, if there is one.
     pub from: Option<Day>,
-    /// The last day on which it holds, where there is one.
+    /// The last day on which it holds, if there is one.
     pub until: Option<Day>,
 }
 

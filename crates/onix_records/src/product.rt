@@ -103,7 +103,7 @@ fn fill_product(fields: &mut FieldBuffer, product: &Product) -> Result<(), Alloc
     push_identifiers(fields, product.ids.as_slice())
 }
 
-/// Appends the records of a product: its own, and those of its supplies. Where memory runs out, the
+/// Appends the records of a product: its own, and those of its supplies. If memory runs out, the
 /// records stay as they were. The list of fields is used for each record in turn, and what it holds
 /// is lost.
 #[tactic(auto, unfolding(crate::specs::Product::product_records))]

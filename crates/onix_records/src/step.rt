@@ -126,7 +126,7 @@ fn add_named(
 }
 
 /// Adds the row that a record is to a draft, where it may come next after so many records.
-/// `Wrong` where it is no row, or one that may not; `Memory` where memory ran out. The draft is
+/// `Wrong` where it is no row, or one that may not; `Memory` if memory ran out. The draft is
 /// good for nothing then. The list takes the record's fields.
 #[tactic(auto, unfolding(crate::specs::Row::row_of))]
 pub fn read_next<'a>(

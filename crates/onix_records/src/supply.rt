@@ -40,7 +40,7 @@ fn fill_supply(
     push_territory(alloc, fields, &supply.market)
 }
 
-// Appends the records of a supply: its own, and those of its details. Where memory runs out, the
+// Appends the records of a supply: its own, and those of its details. If memory runs out, the
 // records stay as they were.
 #[tactic(auto, unfolding(crate::specs::Supply::supply_records))]
 fn append_supply(

@@ -38,7 +38,7 @@ before-more : (x y : List ℕ) → comes_before x y ≡ true → (codes : List (
 before-more x y first [] all = tt
 before-more x y first (z ∷ codes) all = (trans x y z first all.0, before-more x y first codes all.1)
 
--- each code comes before all behind it
+-- each code comes before all after it
 abbrev pub Rises : List (List ℕ) → Type 0
 Rises [] = Unit {0}
 Rises (x ∷ xs) = IsBefore x xs × Rises xs

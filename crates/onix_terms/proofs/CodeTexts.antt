@@ -12,7 +12,7 @@ text-push (x ∷ y ∷ codes) code some =
 one-more : (codes : List (List ℕ)) (i : ℕ) (code : List ℕ) → i < length codes → code ≡ get_or codes i code → take (i + 1) codes ≡ take i codes ++ code ∷ []
 one-more codes i code short is = take_more codes i code short ∙ ap (λ c. take i codes ++ c ∷ []) (sym is)
 
--- a code behind others
+-- a code after others
 pub text-more : (codes : List (List ℕ)) (i : ℕ) (code before between after : List ℕ) → i < length codes → code ≡ get_or codes i code → 0 < i →
     before ≡ countries_text (take i codes) → between ≡ before ++ 32 ∷ [] → after ≡ between ++ code → after ≡ countries_text (take (i + 1) codes)
 text-more codes i code before between after short is some b e a =

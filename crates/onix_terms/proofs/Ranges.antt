@@ -71,7 +71,7 @@ positive-range digits below text n e =
     let steps = between (digits_of text) (positive_from below) n (met (nat_le (length text) digits) (digits_of text >>= positive_from below) n e).1 in
     bounded steps.value below n steps.second_gives
 
--- 1 to 3 digits behind the point are below one
+-- 1 to 3 digits after the point are below one
 worth-small : (places n : ℕ) → 0 < places → places ≤ 3 → n < 10 ^ places → n * last_digit_worth places < 1000
 worth-small places n some few small =
     elim (cases_lt places 2) [

@@ -91,7 +91,7 @@ before-at x (y ∷ found) code more all = before-at x found code more all.1
 last-of : (same before : Bool) (code x : List ℕ) (xs rest : List (List ℕ)) → same ≡ false → before ≡ false → placed same before code x xs rest ≡ x ∷ rest
 last-of same before code x xs rest other after = rw (other, after) refl
 
--- a code behind all others goes to the end
+-- a code after all others goes to the end
 with-last : (found : List (List ℕ)) (code : List ℕ) (more : List (List ℕ)) → Rises (found ++ code ∷ more) → with_code found code ≡ found ++ code ∷ []
 unfolding with_code
 with-last [] code more rise = refl

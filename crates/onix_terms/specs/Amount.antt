@@ -9,11 +9,11 @@ use Rattle.onix_terms.specs.Digits.{digits_of, two_digits}
 abbrev pub amount_from : ℕ → Option ℕ
 amount_from n = if nat_lt n 1_000_000_000_000 then Some n else None
 
--- the thousandths that a one is worth as the last of so many digits behind the point
+-- the thousandths that a one is worth as the last of so many digits after the point
 abbrev pub last_digit_worth : ℕ → ℕ
 last_digit_worth places = if places == 1 then 100 else if places == 2 then 10 else 1
 
--- the thousandths that 1 to 3 digits behind the point write
+-- the thousandths that 1 to 3 digits after the point write
 abbrev pub thousandths_of : List ℕ → Option ℕ
 thousandths_of text =
     if nat_le (length text) 3

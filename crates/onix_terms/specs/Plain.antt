@@ -6,7 +6,7 @@ use Rattle.std.specs.Bool.{Decides}
 use Rattle.std.specs.List.{AllZip}
 use Rattle.std.specs.Option.{option_eq}
 
--- a list of clones is the same list, where each clone is the same value
+-- a list of clones is the same list, if each clone is the same value
 pub clones-same : {T : Type 0} {IsClone : T → T → Type 0} → ((x y : T) → IsClone x y → y ≡ x)
     → (xs ys : List T) → AllZip IsClone xs ys
     → ys ≡ xs

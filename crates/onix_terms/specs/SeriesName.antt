@@ -17,6 +17,6 @@ is_series_name text =
 abbrev pub series_name_of : List ℕ → Option (List ℕ)
 series_name_of text = if is_series_name text then Some text else None
 
--- a name in an array of 32 bytes, zeros behind it
+-- a name in an array of 32 bytes, zeros after it
 abbrev pub padded : List ℕ → List ℕ
 padded name = name ++ replicate (32 - length name) 0

@@ -44,7 +44,7 @@ with_code (x ∷ xs) code =
 abbrev pub in_order : List (List ℕ) → List (List ℕ)
 in_order codes = fold with_code [] codes
 
--- each code comes before all that stand behind it, so none stands there twice
+-- each code comes before all that stand after it, so none stands there twice
 abbrev pub IsInOrder : List (List ℕ) → Type 0
 IsInOrder codes = AllPairs (λ x y. IsTrue (comes_before x y)) codes
 
@@ -75,7 +75,7 @@ abbrev pub world_text : Bool → List ℕ
 world_text world = if world then codes "WORLD" else []
 
 -- the territory of CountriesIncluded, RegionsIncluded and CountriesExcluded. It is the world too
--- where nothing is included
+-- if nothing is included
 abbrev pub territory_of : List ℕ → List ℕ → List ℕ → Option Territory
 territory_of included regions excluded = do
   i ← countries_of included

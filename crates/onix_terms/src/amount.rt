@@ -73,7 +73,7 @@ impl Amount {
         self.thousandths
     }
 
-    /// The text that `write` appends. Fails only where memory runs out.
+    /// The text that `write` appends. Fails only if memory runs out.
     pub fn text(self, alloc: Global) -> Result<Text, Memory>
         ensures { IfOk result (λ t. t ≡ amount_text self) }
     {
@@ -86,7 +86,7 @@ impl Amount {
     }
 
     /// Appends the whole part without needless zeros, a point and three decimals. Fails only
-    /// where memory runs out, and the `String` is then as it was.
+    /// if memory runs out, and the `String` is then as it was.
     pub fn write(self, out: &mut String) -> Result<(), Memory>
         ensures ok { OnOk result (string_bytes out.new ≡ string_bytes out.old ++ amount_text self) }
         ensures err { OnErr result (string_bytes out.new ≡ string_bytes out.old) }
@@ -111,7 +111,7 @@ impl FromStr for Amount {
     }
 }
 
-// The thousandths that 1 to 3 digits write behind the point.
+// The thousandths that 1 to 3 digits write after the point.
 fn read_part(text: &str) -> Option<u64>
     ensures value { result ≡ thousandths_of text.now }
     ensures below { IfSome result (λ n. n < 1000) }

@@ -117,7 +117,7 @@ pub fn read_world(text: &str) -> Result<bool, TermFault>
     Err(TermFault::NotATerm)
 }
 
-/// The codes of countries with one space between them. Fails only where memory runs out.
+/// The codes of countries with one space between them. Fails only if memory runs out.
 pub fn countries_text(alloc: Global, countries: &[Country]) -> Result<Text, AllocError>
     ensures { IfOk result (λ t. t ≡ countries_text countries.now) }
 {

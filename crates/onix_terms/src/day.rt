@@ -74,7 +74,7 @@ impl Day {
         Text::from_str(alloc, text_of(&eight_digits(date_of(self))))
     }
 
-    /// Appends the date as YYYYMMDD. Fails only where memory runs out, and the `String` is then
+    /// Appends the date as YYYYMMDD. Fails only if memory runs out, and the `String` is then
     /// as it was.
     pub fn write(self, out: &mut String) -> Result<(), Memory>
         ensures ok { OnOk result (string_bytes out.new ≡ string_bytes out.old ++ day_text self) }

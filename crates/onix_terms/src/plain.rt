@@ -26,7 +26,7 @@ pub trait Plain: Clone + PartialEq {
 
     ghost eq_decides: { (x y : Self) → Decides (Self.eq x y) (x ≡ y) };
 
-    /// A copy of the value. Fails only where memory runs out.
+    /// A copy of the value. Fails only if memory runs out.
     final fn duplicate(&self) -> Result<Self, AllocError>
         ensures { IfOk result (λ d. d ≡ self.now) }
     {

@@ -8,7 +8,7 @@ use Rattle.price_rules.specs.declared.precedence.PrecedenceFault.TheVariants as 
 use Rattle.price_rules.specs.declared.precedence.Rule.{Rule}
 use Rattle.price_rules.proofs.CurrentPrice.{nat_le_decides}
 
--- the item at this number is bad, where the first one stands at number n
+-- the item at this number is bad, where the first one is at number n
 abbrev IsBadFrom : ℕ → Items → ℕ → Type 0
 IsBadFrom n items number =
     (k : ℕ) × (value : Data) × (number ≡ n + k) × (get_item k items ≡ Some value) × ((1_000 < number) ⊎ (rule_of value ≡ None))

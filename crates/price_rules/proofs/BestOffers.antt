@@ -45,7 +45,7 @@ module _ (rules : List Rule) (q : PriceQuery) (xs ys : List Offer) where
       let place : length xs + (e.0.offer_index - length xs) ≡ e.0.offer_index = omega (arith, high) in
       sym (get_right xs ys (e.0.offer_index - length xs)) ∙ ap (slice_get (xs ++ ys)) place ∙ k.3.1
 
-  -- ---- where no offer of the first is taken
+  -- ---- if no offer of the first is taken
 
   abbrev to_second : ℕ → ℕ
   to_second k = length xs + k
@@ -60,7 +60,7 @@ module _ (rules : List Rule) (q : PriceQuery) (xs ys : List Offer) where
         (cases_lt e.0.offer_index (length xs));
   }
 
-  -- ---- where one is
+  -- ---- if one is
 
   abbrev to_all : ℕ → ℕ → ℕ
   to_all first zero = first

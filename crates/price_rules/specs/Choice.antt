@@ -33,7 +33,7 @@ Fits rule offer q amount =
 abbrev pub Pair : Type 0
 Pair = Choice × Offer
 
--- the pair is one of this rule, which stands at that number
+-- the pair is one of this rule, which is at that number
 abbrev pub IsRuleCandidate : Rule → ℕ → List Offer → PriceQuery → Pair → Type 0
 IsRuleCandidate rule number offers q c =
     (c.0.rule ≡ number) × (slice_get offers c.0.offer_index ≡ Some c.1) × Fits rule c.1 q c.0.amount
@@ -65,7 +65,7 @@ Precedes =
     (ByThen (λ c. c.1.reference) IsTextLess
     (ByThen (λ c. c.1.place) IsLess (λ c d. c.0.offer_index < d.0.offer_index)))))
 
--- the choice is among the pairs, and no other one among them precedes it; none where there are no
+-- the choice is among the pairs, and no other one among them precedes it; none if there are no
 -- pairs
 abbrev pub IsLeast : (Pair → Type 0) → Option Choice → Type 0
 IsLeast Among None = (c : Pair) → Among c → ⊥
@@ -73,7 +73,7 @@ IsLeast Among (Some choice) =
     (offer : Offer) × Among (choice, offer)
     × ((c : Pair) → Among c → Precedes c (choice, offer) → ⊥)
 
--- the choice is a candidate that no candidate precedes; none where there is no candidate. A
+-- the choice is a candidate that no candidate precedes; none if there is no candidate. A
 -- candidate (`IsCandidate`) is a rule and an offer that it admits by series and availability, with
 -- a current price that is not above the greatest amount of the rule; one precedes another
 -- (`Precedes`) by rule, amount, series, reference, place and index

@@ -11,7 +11,7 @@ IsGreater a b = b < a
 abbrev pub ByThen : {X K : Type 0} → (X → K) → (K → K → Type 0) → (X → X → Type 0) → X → X → Type 0
 ByThen key Less Next x y = Less (key x) (key y) ⊎ ((key x ≡ key y) × Next x y)
 
--- x is in the list and passes, and none that passes comes before it; none where nothing passes
+-- x is in the list and passes, and none that passes comes before it; none if nothing passes
 abbrev pub IsBest : {X : Type 0} → (X → Type 0) → (X → X → Type 0) → List X → Option X → Type 0
 IsBest Passes Before xs None = All (λ x. Passes x → ⊥) xs
 IsBest Passes Before xs (Some x) =

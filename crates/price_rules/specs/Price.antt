@@ -40,7 +40,7 @@ Outranks =
     ByThen (λ p. p.minimum) IsGreater (ByThen (λ p. p.from) IsLater (λ p r. p.amount < r.amount))
 
 -- the current price of the offer: the amount of a price that holds and that no price that holds
--- outranks, none where none holds. A price holds (`Holds`) where its type and currency are those
+-- outranks, none if none holds. A price holds (`Holds`) where its type and currency are those
 -- asked for, the country is in the market and in its territory, it has begun and not ended, and its
 -- minimum is not above the quantity; it outranks another (`Outranks`) by the greater minimum, then
 -- the later first day, then the lesser amount

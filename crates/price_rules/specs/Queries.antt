@@ -7,7 +7,7 @@ use Rattle.onix_terms.specs.Quantity.{quantity_of}
 use Rattle.price_rules.specs.declared.offer.PriceQuery.{PriceQuery}
 use Rattle.price_rules.specs.declared.offer.CalendarQuery.{CalendarQuery}
 
--- for how many copies prices are asked: for one where there is no text
+-- for how many copies prices are asked: for one if there is no text
 abbrev pub copies_asked : Option (List ℕ) → Option ℕ
 copies_asked None = Some 1
 copies_asked (Some quantity) = quantity_of quantity

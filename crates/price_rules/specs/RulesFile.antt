@@ -105,7 +105,7 @@ rules_of (Some items) = rules_from 1 items
 unfoldable pub precedence_of : List ℕ → Result (List Rule) PrecedenceFault
 precedence_of text = rules_of (parse_document text >>= top_items)
 
--- a call failed as reading does, or where memory ran out
+-- a call failed as reading does, or if memory ran out
 abbrev pub Explains : Result (List Rule) PrecedenceFault → PrecedenceFault → Type 0
 Explains read e = (e ≡ fault.Memory) ⊎ (read ≡ Err e)
 

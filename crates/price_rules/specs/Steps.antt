@@ -5,7 +5,7 @@ use Rattle.price_rules.specs.declared.calendar.Span.{Span}
 use Rattle.price_rules.specs.declared.choice.Choice.{Choice}
 use Rattle.price_rules.specs.declared.offer.Offer.{Offer}
 
--- one turn of a scan for the best: the item takes the place of the best so far where it passes and
+-- one turn of a scan for the best: the item replaces the best so far where it passes and
 -- comes before it
 abbrev pub IsTurn : {X : Type 0} → (X → Type 0) → (X → X → Type 0) → X → Option X → Option X
     → Type 0

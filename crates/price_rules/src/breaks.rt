@@ -59,7 +59,7 @@ fn gather_days(alloc: Global, prices: &[Price], from: Day, to: Day) -> Result<Ve
 /// The break days of the offer from one day to another, both included: the first day, and each
 /// later day of the range on which a price begins or the day before which one ended, in order,
 /// without repeats. Between two of them no current price changes. `BadRange` comes exactly where
-/// the range is bad, `Memory` only where memory ran out.
+/// the range is bad, `Memory` only if memory ran out.
 pub fn break_days(
     alloc: Global,
     offer: &Offer,

@@ -149,7 +149,7 @@ fn spans_of(
 }
 
 /// The calendar of the offer: in order, the spans of days with one current price, as long as they
-/// can be. `BadRange` comes exactly where the range is bad, `Memory` only where memory ran out.
+/// can be. `BadRange` comes exactly where the range is bad, `Memory` only if memory ran out.
 pub fn calendar_for(
     alloc: Global,
     offer: &Offer,

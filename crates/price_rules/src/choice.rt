@@ -116,7 +116,7 @@ fn undercuts(best: &Option<Choice>, offers: &[Offer], amount: Amount, offer: &Of
     }
 }
 
-// The choice of one rule, which stands at this number.
+// The choice of one rule, which is at this number.
 fn choose_by(rule: &Rule, number: u32, offers: &[Offer], query: &PriceQuery) -> Option<Choice>
     ensures { IsLeast (IsRuleCandidate rule.now number offers.now query.now) result }
 {
@@ -136,7 +136,7 @@ fn choose_by(rule: &Rule, number: u32, offers: &[Offer], query: &PriceQuery) -> 
 }
 
 /// The choice of the shop: of the first rule that takes an offer, the offer with the least current
-/// price, then the first by series, reference, place and index. `None` where no rule takes an
+/// price, then the first by series, reference, place and index. `None` if no rule takes an
 /// offer.
 pub fn choose(precedence: &Precedence, offers: &[Offer], query: &PriceQuery) -> Option<Choice>
     ensures meaning { IsChoice precedence.now offers.now query.now result }

@@ -20,7 +20,7 @@ pub struct ChoiceSoFar<'a> {
     pub best: Option<BestOffer>,
 }
 
-// The offer at that index, where there is one.
+// The offer at that index, if there is one.
 fn offer_at(offers: Items<Offer>, index: usize) -> Option<Offer>
     ensures { result ≡ slice_get offers index }
 {

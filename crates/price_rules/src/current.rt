@@ -100,7 +100,7 @@ fn current_by_scan(offer: &Offer, query: &PriceQuery) -> Option<Amount>
 }
 
 /// The current price of the offer for the question: of the prices that hold, that of the greatest
-/// minimum quantity, then of the latest From, then the least amount. `None` where no price holds.
+/// minimum quantity, then of the latest From, then the least amount. `None` if no price holds.
 pub fn current_price(offer: &Offer, query: &PriceQuery) -> Option<Amount>
     ensures meaning { IsCurrent offer.now query.now result }
     ensures value { result ≡ current offer.now query.now }

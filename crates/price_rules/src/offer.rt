@@ -48,7 +48,7 @@ pub struct CalendarQuery {
     pub quantity: Quantity,
 }
 
-// For how many copies prices are asked: for one where no text says it.
+// For how many copies prices are asked: for one if no text says it.
 fn copies_asked(quantity: Option<&str>) -> Option<Quantity>
     ensures { result ≡ copies_asked (option_map (λ q. q.now) quantity.entry) }
 {
@@ -59,7 +59,7 @@ fn copies_asked(quantity: Option<&str>) -> Option<Quantity>
 }
 
 impl PriceQuery {
-    /// Which prices these texts ask for: for one copy where none says how many. `None` where one of
+    /// Which prices these texts ask for: for one copy if none says how many. `None` if one of
     /// them is outside its grammar.
     #[tactic(auto, unfolding(crate::specs::Queries::price_query))]
     pub fn read(

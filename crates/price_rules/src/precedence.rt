@@ -102,7 +102,7 @@ impl Precedence {
     ///
     /// `NotToml` comes exactly where the text is no TOML document, or its top-level table has
     /// another key than `rule`, or `rule` is no array. Else `BadRule` names the first item, from 1,
-    /// that is past number 1,000 or is no such table. `Memory` comes only where memory ran out.
+    /// that is past number 1,000 or is no such table. `Memory` comes only if memory ran out.
     pub fn read(alloc: Global, text: &str) -> Result<Precedence, PrecedenceFault>
         ensures rules { IfOk result (λ p. precedence_of text.now ≡ Ok p) }
         ensures fault { IfErr result (Explains (precedence_of text.now)) }

@@ -72,7 +72,7 @@ fn code_of(value: &Value) -> Option<Code2>
     Code2::read(value.as_str()?)
 }
 
-// The availability codes that values are, or `None` where one of them is not one.
+// The availability codes that values are, or `None` if one of them is not one.
 fn read_codes(alloc: Global, items: &[Value]) -> Result<Option<Items<Code2>>, AllocError>
     ensures { IfOk result (λ found. found ≡ codes_of (items_view items.now)) }
 {

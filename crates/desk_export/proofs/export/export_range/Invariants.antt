@@ -4,7 +4,7 @@ use Rattle.desk_export.proofs.TakenTexts.{IsDone}
 use Rattle.desk_export.specs.Exports.{requests_from}
 use Rattle.desk_export.proofs.export.export_range.Given as goal
 
--- what stands at the numbers before this one was exported
+-- what is at the numbers before this one was exported
 abbrev pub invariant-loop-n : goal.invariant-loop-n
 invariant-loop-n g l = record {
   above : l.from ≤ l.n;

@@ -22,7 +22,7 @@ allows-product (part.InSupply p s None) h = cc (h s)
 allows-product (part.InSupply p s (Some d)) h = (λ _. refl, λ _. refl)
 allows-product (part.Ended n) h = cc (h some-supply)
 
--- where no supply may come, neither may a product nor the end, but at the start
+-- if no supply may come, neither may a product nor the end, but at the start
 refuses-product : (o : Part) (e : RowFault) → (o ≡ part.Nothing → ⊥) → RefusesSupply o e → RefusesProduct o e
 refuses-product o fault.Memory filled h = tt
 refuses-product part.Nothing fault.Wrong filled h = absurd (filled refl)

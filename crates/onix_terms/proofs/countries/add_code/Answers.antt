@@ -24,7 +24,7 @@ at_earlier x xs code differs before = rw (differs, before) refl
 from_here : (codes : List (List ℕ)) (i : ℕ) (other : List ℕ) → i < length codes → other ≡ get_or codes i other → drop i codes ≡ other ∷ drop (i + 1) codes
 from_here codes i other inside is = drop-cons codes i other inside ∙ rw (add-one, ← is) refl
 
--- what the codes become by a code that stands at a place
+-- what the codes become by a code that is at a place
 stays : (codes : List (List ℕ)) (i : ℕ) (code other : List ℕ) → i < length codes → other ≡ get_or codes i other → bytes_eq code other ≡ true →
     take i codes ++ with_code (drop i codes) code ≡ codes
 stays codes i code other inside is same =

@@ -37,9 +37,7 @@ fn of_document<'a>(fault: &'a feed_xml::Fault, told: &'a RefusalHints) -> Words<
             b"UTF-16" => ("encoding *; iconv -f UTF-16 -t UTF-8 recodes it", b"UTF-16"),
             name => ("encoding * is not read", name),
         },
-        (feed_xml::Fault::Malformed, Some(at)) => {
-            ("no well-formed XML at *", at.begins.as_slice())
-        }
+        (feed_xml::Fault::Malformed, Some(rest)) => ("no well-formed XML at *", rest.as_slice()),
         (feed_xml::Fault::NotText, _) => (
             "what is no text of XML in its encoding, as of a packed file or of another encoding",
             NOTHING,

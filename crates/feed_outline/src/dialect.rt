@@ -185,11 +185,6 @@ impl Dialect {
             || root_address(prefix, &self.bindings) == self.address.as_slice()
     }
 
-    /// The kind of its names.
-    pub(crate) fn naming(&self) -> Naming {
-        self.naming
-    }
-
     /// The reference name of an element with this name and these declarations below what a grower
     /// has open, where it counts by a vocabulary; a stranger's name, where it is called as one that
     /// counts in any namespace, kind of names and case of letters.

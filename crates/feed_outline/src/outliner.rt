@@ -13,11 +13,11 @@ use crate::dialect::{Dialect, Wrong, format_of};
 use crate::grower::Grower;
 use crate::line::Line;
 use crate::message_reading::{Fault, Stopped};
-use crate::names::{Naming, Vocabulary};
+use crate::names::Vocabulary;
 use crate::namespaces::bindings_of;
 use crate::refusal_hints::RefusalHints;
 use feed_xml::{
-    Attributes, Bytes, Piece, Position, Sink, Stuck, Token, bracket_text, push_reference,
+    Attributes, Bytes, Piece, Position, Sink, Token, bracket_text, push_reference,
     push_section_byte,
 };
 use std::alloc::{AllocError, Global};
@@ -108,14 +108,6 @@ fn refused<T>(fault: Fault, place: Position, taker: T, told: RefusalHints) -> Re
     })
 }
 
-// The kind of names that a root tells, where it is that of a message.
-fn naming_in(root: &Option<Result<Dialect, Wrong>>) -> Option<Naming> {
-    match root {
-        Some(Ok(dialect)) => Some(dialect.naming()),
-        _ => None,
-    }
-}
-
 impl<T: Taker + Drop> Outliner<T> {
     /// Before the first token.
     pub(crate) fn new(alloc: Global, taker: T) -> Outliner<T>
@@ -128,7 +120,7 @@ impl<T: Taker + Drop> Outliner<T> {
             child: Grower::new(alloc),
             known: true,
             place: Position::first(),
-            told: RefusalHints::new(alloc),
+            told: RefusalHints::new(),
         }
     }
 
@@ -143,7 +135,7 @@ impl<T: Taker + Drop> Outliner<T> {
             child,
             known,
             place,
-            mut told,
+            told,
         } = self;
         match root {
             None => {
@@ -151,8 +143,7 @@ impl<T: Taker + Drop> Outliner<T> {
                 refused(Fault::Message(Wrong::Root(name)), place, taker, told)
             }
             Some(Err(wrong)) => refused(Fault::Message(wrong), place, taker, told),
-            Some(Ok(dialect)) => {
-                told.naming = Some(dialect.naming());
+            Some(Ok(_)) => {
                 if !known {
                     return refused(Fault::Reference, place, taker, told);
                 }
@@ -172,13 +163,12 @@ impl<T: Taker + Drop> Outliner<T> {
         let Outliner {
             alloc: _,
             taker,
-            root,
+            root: _,
             child: _,
             known: _,
             place: _,
-            mut told,
+            told,
         } = self;
-        told.naming = naming_in(&root);
         Stopped {
             fault,
             place,
@@ -306,15 +296,9 @@ impl<T: Taker + Drop> Outliner<T> {
             ≡ told T.vocabulary T.after self.old (token_view token.entry)) }
     {
         match token {
-            Token::Start(name, attributes, _) => {
-                self.told.open(self.place)?;
-                self.begin(name, &attributes)
-            }
+            Token::Start(name, attributes, _) => self.begin(name, &attributes),
             Token::Empty(name, attributes, _) => self.empty(name, &attributes),
-            Token::End(_, _) => {
-                self.told.close();
-                self.end()
-            }
+            Token::End(_, _) => self.end(),
             Token::Reference(body) => self.refer(body),
             Token::Opening => self.speak(b"", true),
             Token::Bracket(count) => self.speak(bracket_text(count), true),
@@ -322,10 +306,7 @@ impl<T: Taker + Drop> Outliner<T> {
             Token::Comment(_) => self.speak(b"", true),
             Token::Instruction(_) => self.speak(b"", true),
             Token::Declaration(_) => self.speak(b"", true),
-            Token::Doctype(body) => {
-                self.told.take_doctype(body);
-                self.speak(b"", true)
-            }
+            Token::Doctype(_) => self.speak(b"", true),
         }
     }
 
@@ -397,7 +378,7 @@ impl<T: Taker + Drop> Sink for Outliner<T> {
         }
     }
 
-    fn stuck(&mut self, at: &Stuck<'_>) {
-        self.told.take_stuck(self.alloc, at);
+    fn stuck(&mut self, rest: &[u8]) {
+        self.told.take_stuck(self.alloc, rest);
     }
 }

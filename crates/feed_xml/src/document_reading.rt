@@ -23,7 +23,7 @@ use crate::encodings::{Encoding, push_decoded};
 use crate::fault::Fault;
 use crate::pieces::{Piece, read_piece};
 use crate::place::Place;
-use crate::sink::{Sink, Stuck};
+use crate::sink::Sink;
 use crate::stop::Stop;
 use crate::texts::{Part, follow, is_start};
 use std::alloc::Global;
@@ -110,17 +110,6 @@ fn first(bytes: &[u8], count: usize) -> &[u8]
     &bytes[..count]
 }
 
-// Tells a sink what is malformed.
-fn tell_stuck<S: Sink>(rest: &[u8], is_token: bool, place: &Place, sink: &mut S)
-    ensures { sink.new ≡ sink.old }
-{
-    sink.stuck(&Stuck {
-        rest,
-        is_token,
-        open: place.open(),
-    });
-}
-
 // Hands on each token that is whole, and counts their bytes.
 fn drain<S: Sink>(window: &[u8], place: &mut Place, sink: &mut S) -> Result<usize, Fault>
     ensures within { IfOk result (λ n. n ≤ length window.now) }
@@ -139,7 +128,7 @@ fn drain<S: Sink>(window: &[u8], place: &mut Place, sink: &mut S) -> Result<usiz
                 let (taken, behind) = match take_some(place, piece, rest, next) {
                     Ok(found) => found,
                     Err(fault) => {
-                        tell_stuck(rest, true, place, sink);
+                        sink.stuck(rest);
                         return Err(fault);
                     }
                 };
@@ -151,7 +140,7 @@ fn drain<S: Sink>(window: &[u8], place: &mut Place, sink: &mut S) -> Result<usiz
             }
             Err(Stop::More) => return Ok(window.len() - rest.len()),
             Err(Stop::Never) => {
-                tell_stuck(rest, false, place, sink);
+                sink.stuck(rest);
                 return Err(Fault::Malformed);
             }
         }

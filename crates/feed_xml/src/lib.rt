@@ -38,6 +38,6 @@ pub use pieces::Piece;
 pub use position::Position;
 pub use references::push_reference;
 pub use sections::{bracket_text, push_section_byte};
-pub use sink::{Sink, Stuck};
+pub use sink::Sink;
 pub use tags::Token;
 pub use values::push_normalized;

@@ -63,14 +63,6 @@ impl Names {
         Ok(())
     }
 
-    /// The last name, where there is one.
-    pub(crate) fn last(&self) -> Option<&[u8]> {
-        match self.starts.last() {
-            Some(start) => self.bytes.get(*start..),
-            None => None,
-        }
-    }
-
     /// Takes the last name away if it is this one.
     pub(crate) fn close(&mut self, name: &[u8]) -> bool
         ensures yes { result ≡ true → closed name.now self.old ≡ Some self.new }

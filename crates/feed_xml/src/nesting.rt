@@ -58,11 +58,6 @@ impl Nesting {
         self.names.is_nothing()
     }
 
-    /// The name of the innermost element that is open.
-    pub(crate) fn open(&self) -> Option<&[u8]> {
-        self.names.last()
-    }
-
     /// Goes on by a stretch of text.
     pub(crate) fn take_text(&mut self, run: &[u8]) -> Result<(), Fault>
         ensures ok { OnOk result (nests self.old (map raw run.now) ≡ Some self.new) }

@@ -328,11 +328,6 @@ impl Place {
         self.nesting.is_closed() && (is_clear(self.tail) && matches!(self.prolog, Prolog::Closed))
     }
 
-    /// The name of the innermost element that is open.
-    pub(crate) fn open(&self) -> Option<&[u8]> {
-        self.nesting.open()
-    }
-
     /// Goes on by a stretch of text.
     pub(crate) fn take_text(&mut self, run: &[u8]) -> Result<(), Fault>
         ensures ok { OnOk result (steps self.old (map raw run.now) ≡ Some self.new) }

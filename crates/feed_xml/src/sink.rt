@@ -25,17 +25,7 @@ pub trait Sink {
         ensures taken { OnOk result (self.new ≡ fold after self.old (piece_view piece.entry)) }
         ensures more { IfOk result (λ more. more ≡ goes_on self.new) };
 
-    /// Takes notice of what is malformed. Nothing is handed on after it.
-    fn stuck(&mut self, at: &Stuck<'_>)
+    /// Takes notice that what begins here is malformed. Nothing is handed on after it.
+    fn stuck(&mut self, rest: &[u8])
         ensures { self.new ≡ self.old };
-}
-
-/// What of a document is malformed: the rest of what was read so far, whether it begins with a token,
-/// which is then not allowed there, and the name of the innermost element that is open, if one is.
-/// Nothing is proved of it.
-#[derive(Clone, Copy)]
-pub struct Stuck<'a> {
-    pub rest: &'a [u8],
-    pub is_token: bool,
-    pub open: Option<&'a [u8]>,
 }

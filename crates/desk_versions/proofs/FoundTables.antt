@@ -13,7 +13,7 @@ use Rattle.desk_tables.specs.Transactions.{IsEmptied}
 use Rattle.onix_records.specs.declared.faults.StoreFault.{StoreFault}
 use Rattle.series_rules.specs.declared.requests.Request.{Request}
 use Rattle.desk_rows.specs.Desks.{AreRowsOf, HoldsRequests, KeepsRequests, StoresRequests}
-use Rattle.desk_versions.specs.Openings.{AreTreesOf, Becomes, ByFound, HoldsAny, IsCreated, IsDone, IsFaultOf, IsIndexed, IsLeft, IsThere, IsVersionRead, LeavesOne, LeavesShown, MakesIndex, MayBeLeft, ShowsOnly, Tells, Way, opening}
+use Rattle.desk_versions.specs.Openings.{AreTreesOf, Becomes, ByFound, HoldsAny, IsCreated, IsDone, IsFaultOf, IsIndexed, IsLeft, IsThere, IsVersionRead, LeavesOne, LeavesShown, MakesIndex, MayBeLeft, SaysVersion, ShowsOnly, Way, opening}
 use Rattle.desk_versions.specs.declared.opening.OpenFault.{OpenFault}
 use Rattle.desk_versions.specs.declared.opening.OpenFault.TheVariants.{Store, OtherVersion}
 use Rattle.desk_rows.proofs.ComesTo.{stored}
@@ -21,7 +21,7 @@ use Rattle.desk_versions.proofs.EmptyFiles.{first_stand}
 
 -- ---- what is told
 
-pub no_meta : (db : Database) → IsEmptied schema_0 db → Tells db None
+pub no_meta : (db : Database) → IsEmptied schema_0 db → SaysVersion db None
 no_meta db emptied = rw emptied.schema_is refl
 
 -- a database of a desk, in either version, has its table `meta`
@@ -34,15 +34,15 @@ no_bool : {A : Type 0} (b : Bool) → b ≡ true → b ≡ false → A
 no_bool b is not = absurd (let no : true ≡ false = sym is ∙ not in cc)
 
 -- what tells a version does not tell none
-pub tells_both : {A : Type 0} (db : Database) (version : ℕ) → Tells db (Some version) → Tells db None → A
+pub tells_both : {A : Type 0} (db : Database) (version : ℕ) → SaysVersion db (Some version) → SaysVersion db None → A
 tells_both db version tells none = no_bool _ tells.0 none
 
 -- the version of rows is told
-pub tells_rows : (db : Database) (version : ℕ) (rows : DeskRows) → Tells db (Some version) → HoldsAny db rows → version_in rows ≡ Some version
+pub tells_rows : (db : Database) (version : ℕ) (rows : DeskRows) → SaysVersion db (Some version) → HoldsAny db rows → version_in rows ≡ Some version
 tells_rows db version rows tells any = tells.1 rows.meta (any_has_meta db rows any)
 
 -- where none is told, there are no rows
-pub tells_no_rows : {A : Type 0} (db : Database) (rows : DeskRows) → Tells db None → HoldsAny db rows → A
+pub tells_no_rows : {A : Type 0} (db : Database) (rows : DeskRows) → SaysVersion db None → HoldsAny db rows → A
 tells_no_rows db rows none any = no_bool _ (has_its_meta db rows.meta (any_has_meta db rows any)) none
 
 -- ---- what is left
@@ -153,7 +153,7 @@ module _ {A : Type 0} (ways : A → Way) (a : A) (s0 s1 s2 : State) (settled : I
   -- of the rows of one of this version
   module _ (read : IsVersionRead s0 s1 (Ok (Some (ways a).version))) where
     pub became_changed : (HasCleanDisk s2 → HasCleanDisk s1) → (HasCleanDisk s2 → IsTrue s2.is_open × ((d : Trees) → s2.may_leave d → d ≡ s2.committed.trees)) → (HasCleanDisk s2 → (db : Database) → ShowsOnly db s1 → (ways a).changes db)
-        → (HasCleanDisk s2 → (db : Database) → ShowsOnly db s1 → Tells db (Some (ways a).version) → (rows : DeskRows) → HoldsAny db rows → (made : Database) × ShowsOnly made s2 × (ways a).made db rows made) → Becomes ways s0 s2 (Ok a)
+        → (HasCleanDisk s2 → (db : Database) → ShowsOnly db s1 → SaysVersion db (Some (ways a).version) → (rows : DeskRows) → HoldsAny db rows → (made : Database) × ShowsOnly made s2 × (ways a).made db rows made) → Becomes ways s0 s2 (Ok a)
     became_changed clean1 sure changes made = record { premise = λ clean. read.premise (clean1 clean); done = done; left = λ clean. tt }
       where
         done : HasCleanDisk s2 → IsTrue s0.is_open → (db : Database) → ShowsOnly db s0 → IsDone (ways a) db s2
@@ -169,7 +169,7 @@ module _ {A : Type 0} (ways : A → Way) (a : A) (s0 s1 s2 : State) (settled : I
               )),
             )
 
-    pub became_unchanged : (e : StoreFault) → (HasCleanDisk s2 → HasCleanDisk s1) → (HasCleanDisk s2 → (db : Database) → ShowsOnly db s1 → Tells db (Some (ways a).version) → ((d : Trees) → s2.may_leave d → s1.may_leave d)
+    pub became_unchanged : (e : StoreFault) → (HasCleanDisk s2 → HasCleanDisk s1) → (HasCleanDisk s2 → (db : Database) → ShowsOnly db s1 → SaysVersion db (Some (ways a).version) → ((d : Trees) → s2.may_leave d → s1.may_leave d)
         ⊎ ((ways a).changes db × ((rows : DeskRows) → HoldsAny db rows → (d : Trees) → s2.may_leave d → s1.may_leave d ⊎ AreTreesOf ((ways a).made db rows) d))) → Becomes ways s0 s2 (Err (Store e))
     became_unchanged e clean1 leaves = record {
       premise = λ clean. read.premise (clean1 clean);
@@ -225,12 +225,12 @@ pub keeps_found : (db : Database) (L : List Request) (s : State) → ShowsOnly d
 keeps_found db L s only held = λ up. let is = only up in (is.0, subst (λ d. HoldsRequests d L) (sym is.1) held, subst (λ d. HoldsRequests d L) (sym is.2) held)
 
 -- a database that tells version 2 is of the requests by its rows
-pub tells_stored : (db : Database) (L : List Request) → Tells db (Some 2) → IsFoundFor db L → StoresRequests db L
+pub tells_stored : (db : Database) (L : List Request) → SaysVersion db (Some 2) → IsFoundFor db L → StoresRequests db L
 tells_stored db L tells (inl held) = held
 tells_stored db L tells (inr none) = tells_both db 2 tells (no_meta db none.0)
 
 -- one that tells none has no table
-pub tells_emptied : (db : Database) (L : List Request) → Tells db None → IsFoundFor db L → IsEmptied schema_0 db × (L ≡ [])
+pub tells_emptied : (db : Database) (L : List Request) → SaysVersion db None → IsFoundFor db L → IsEmptied schema_0 db × (L ≡ [])
 tells_emptied db L tells (inl held) = tells_no_rows db held.0 tells (inl held.1)
 tells_emptied db L tells (inr none) = none
 
@@ -277,7 +277,7 @@ left_stands db left (inr (a, inr (inr (tells, creates, ends)))) L found d may = 
     created none (inr (now, is, held)) = inr (now, is, stored now L (first_requests now L none held))
 
 -- what was opened for a desk tells version 2 or none
-pub done_tells : (db : Database) (s : State) → IsDone (opening tt) db s → Tells db None ⊎ Tells db (Some 2)
+pub done_tells : (db : Database) (s : State) → IsDone (opening tt) db s → SaysVersion db None ⊎ SaysVersion db (Some 2)
 done_tells db s (inl (up, inl (tells, stays, found))) = inr tells
 done_tells db s (inl (up, inr (inl (tells, changes, found)))) = inr tells
 done_tells db s (inl (up, inr (inr (tells, creates, found)))) = inl tells

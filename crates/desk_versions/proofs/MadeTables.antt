@@ -11,7 +11,7 @@ use Rattle.desk_tables.specs.Rows.{MetaRow}
 use Rattle.desk_tables.specs.Schema.{is_meta}
 use Rattle.desk_tables.specs.Transactions.{BeginsWork, EndsWork, IsUndone, LeavesOnly, Makes, NoTrees}
 use Rattle.onix_records.specs.declared.faults.StoreFault.{StoreFault}
-use Rattle.desk_versions.specs.Openings.{AreTreesOf, IsVersionRead, MakesAll, ShowsOnly, Tells}
+use Rattle.desk_versions.specs.Openings.{AreTreesOf, IsVersionRead, MakesAll, SaysVersion, ShowsOnly}
 
 -- ---- a transaction, by what was shown before it
 
@@ -67,14 +67,14 @@ some_is_none n e = absurd cc
 
 -- the version of a database that has no table `meta`, or has one
 tells_as : (db : Database) (version : Option ℕ) → (list_any is_meta db.schema.tables ≡ false → version ≡ None) → (list_any is_meta db.schema.tables ≡ true → IsSome version) → ((meta : List MetaRow) → HoldsMeta db meta → version ≡ version_among meta)
-    → (b : Bool) → list_any is_meta db.schema.tables ≡ b → Tells db version
+    → (b : Bool) → list_any is_meta db.schema.tables ≡ b → SaysVersion db version
 tells_as db None absent present tells false none = none
 tells_as db None absent present tells true has = absurd (none_is_some (present has))
 tells_as db (Some n) absent present tells false none = absurd (some_is_none n (absent none))
 tells_as db (Some n) absent present tells true has = (has, λ meta held. sym (tells meta held))
 
 tells_read : (db : Database) (result : Result (Option ℕ) StoreFault) → (list_any is_meta db.schema.tables ≡ false → IfOk result (λ version. version ≡ None)) → (list_any is_meta db.schema.tables ≡ true → IfOk result (λ version. IsSome version))
-    → ((meta : List MetaRow) → HoldsMeta db meta → IfOk result (λ version. version ≡ version_among meta)) → IfOk result (Tells db)
+    → ((meta : List MetaRow) → HoldsMeta db meta → IfOk result (λ version. version ≡ version_among meta)) → IfOk result (SaysVersion db)
 tells_read db (Ok version) absent present tells = tells_as db version absent present tells (list_any is_meta db.schema.tables) refl
 tells_read db (Err e) absent present tells = tt
 
@@ -98,7 +98,7 @@ module _ {W : Type 0} (w : W) (s0 s1 s2 s3 : State) (was now : Bool) (result : R
   version_read = record {
     premise = λ clean. read_clean0 (read_clean1 (read_clean2 clean));
     is_open = λ clean. on_ok result (still clean (begins.begun (read_clean1 (read_clean2 clean))).0.was_open);
-    tells = λ clean db only. subst (λ (x : Database). IfOk result (Tells x)) (begun clean db only).now (tells_read s1.now result absent present (tells (read_clean2 clean)));
+    tells = λ clean db only. subst (λ (x : Database). IfOk result (SaysVersion x)) (begun clean db only).now (tells_read s1.now result absent present (tells (read_clean2 clean)));
     left = λ clean db only. undone_on db s1 s2 s3 (begun clean db only).committed ((keeps []).kept (read_clean2 clean)) (undone clean);
     crash = λ clean db only d may. (begun clean db only).crash d (either ((keeps []).survives.crash (read_clean2 clean) d (either (survives.crash clean d may))));
   }

@@ -10,7 +10,7 @@ use Rattle.onix_records.specs.declared.faults.StoreFault.{StoreFault}
 use Rattle.series_rules.specs.declared.requests.Request.{Request}
 use Rattle.desk_rows.specs.Desks.{StoresRequests}
 use Rattle.desk_versions.specs.Migrations.{HoldsFirstRequests, MakesSecond, migration}
-use Rattle.desk_versions.specs.Openings.{AreTreesOf, Becomes, ByFound, HoldsAny, IsVersionRead, MakesAll, ShowsOnly, Tells}
+use Rattle.desk_versions.specs.Openings.{AreTreesOf, Becomes, ByFound, HoldsAny, IsVersionRead, MakesAll, SaysVersion, ShowsOnly}
 use Rattle.desk_versions.specs.declared.version_two.MigrateAnswer.{MigrateAnswer}
 use Rattle.desk_versions.specs.declared.version_two.MigrateAnswer.TheVariants.{Migrated, AlreadyTwo}
 use Rattle.desk_versions.specs.declared.opening.OpenFault.TheVariants.{Store}
@@ -38,7 +38,7 @@ module _ (s0 s1 s2 : State) (settled : IsSettled s0) (read : IsVersionRead s0 s1
   abbrev MakesNoMore : Result ⊤ StoreFault → Type 0
   MakesNoMore result = MakesAll (λ db. db.schema ≡ desk_schema) (λ _. ⊥) s1 s2 result
 
-  made_of : Makes (Ok tt) → MakesNoMore (Ok tt) → HasCleanDisk s2 → (db : Database) → ShowsOnly db s1 → Tells db (Some 1) → (rows : DeskRows) → HoldsAny db rows → (made : Database) × ShowsOnly made s2 × MakesSecond db rows made
+  made_of : Makes (Ok tt) → MakesNoMore (Ok tt) → HasCleanDisk s2 → (db : Database) → ShowsOnly db s1 → SaysVersion db (Some 1) → (rows : DeskRows) → HoldsAny db rows → (made : Database) × ShowsOnly made s2 × MakesSecond db rows made
   made_of makes again clean db shown tells rows (inl (inl held)) = absurd (again.ok clean db shown held.schema).2
   made_of makes again clean db shown tells rows (inl (inr held)) = absurd (one_two (sym held.1 ∙ tells_rows db 1 rows tells (inl (inr held))))
   made_of makes again clean db shown tells rows (inr first) = let ok = (makes rows).ok clean db shown first in (ok.0, ok.1, (first, ok.2))
@@ -46,7 +46,7 @@ module _ (s0 s1 s2 : State) (settled : IsSettled s0) (read : IsVersionRead s0 s1
   pub became_second : Makes (Ok tt) → MakesNoMore (Ok tt) → Becomes migration s0 s2 (Ok Migrated)
   became_second makes again = became_changed migration Migrated s0 s1 s2 settled read again.premise again.alone (λ clean db shown. tt) (λ clean db shown tells rows any. made_of makes again clean db shown tells rows any)
 
-  left_of : (e : StoreFault) → Makes (Err e) → MakesNoMore (Err e) → HasCleanDisk s2 → (db : Database) → ShowsOnly db s1 → Tells db (Some 1) → (rows : DeskRows) → HoldsAny db rows → (d : Trees) → s2.may_leave d → s1.may_leave d ⊎ AreTreesOf (MakesSecond db rows) d
+  left_of : (e : StoreFault) → Makes (Err e) → MakesNoMore (Err e) → HasCleanDisk s2 → (db : Database) → ShowsOnly db s1 → SaysVersion db (Some 1) → (rows : DeskRows) → HoldsAny db rows → (d : Trees) → s2.may_leave d → s1.may_leave d ⊎ AreTreesOf (MakesSecond db rows) d
   left_of e makes again clean db shown tells rows (inl (inl held)) d may = never (again.crash clean db shown held.schema d may)
     where
       never : s1.may_leave d ⊎ AreTreesOf (λ made. ⊥) d → s1.may_leave d ⊎ AreTreesOf (MakesSecond db rows) d
@@ -70,7 +70,7 @@ abbrev pub IsOfRequests : Database → List Request → Type 0
 IsOfRequests db L = HoldsFirstRequests db L ⊎ IsFoundFor db L
 
 -- rows of version 1 tell no other
-first_tells : {A : Type 0} (db : Database) (version : Option ℕ) → Tells db version → (rows : DeskRows) → HoldsFirst db rows → (L : List Request) → version_in rows ≡ Some 1 → ¬ (version ≡ Some 1) → A
+first_tells : {A : Type 0} (db : Database) (version : Option ℕ) → SaysVersion db version → (rows : DeskRows) → HoldsFirst db rows → (L : List Request) → version_in rows ≡ Some 1 → ¬ (version ≡ Some 1) → A
 first_tells db None tells rows first L is other = tells_no_rows db rows tells (inr first)
 first_tells db (Some version) tells rows first L is other = absurd (other (sym (tells_rows db version rows tells (inr first)) ∙ is))
 

@@ -38,11 +38,11 @@ AreTreesOf Is d = (db : Database) × (db.trees ≡ d) × Is db
 abbrev pub HoldsAny : Database → DeskRows → Type 0
 HoldsAny db rows = HoldsSecond db rows ⊎ HoldsFirst db rows
 
--- The database tells that version, or none: the version is that of the table `meta` of a desk
+-- The database says that version, or none: the version is that of the table `meta` of a desk
 -- alone, as far as its rows can be read, whatever tables stand beside it.
-abbrev pub Tells : Database → Option ℕ → Type 0
-Tells db None = list_any is_meta db.schema.tables ≡ false
-Tells db (Some version) =
+abbrev pub SaysVersion : Database → Option ℕ → Type 0
+SaysVersion db None = list_any is_meta db.schema.tables ≡ false
+SaysVersion db (Some version) =
     (list_any is_meta db.schema.tables ≡ true)
     × ((meta : List MetaRow) → HoldsMeta db meta → version_among meta ≡ Some version)
 
@@ -53,7 +53,7 @@ pub record IsVersionRead (old new : State) (result : Result (Option ℕ) StoreFa
   pub premise : HasCleanDisk new → HasCleanDisk old
   pub is_open : HasCleanDisk new
       → OnOk result (IsTrue new.is_open ⊎ MoreFaults old.faults new.faults)
-  pub tells : HasCleanDisk new → (db : Database) → ShowsOnly db old → IfOk result (Tells db)
+  pub tells : HasCleanDisk new → (db : Database) → ShowsOnly db old → IfOk result (SaysVersion db)
   pub left : HasCleanDisk new → (db : Database) → ShowsOnly db old → ShowsOnly db new
   pub crash : HasCleanDisk new → (db : Database) → ShowsOnly db old → (d : Trees) → new.may_leave d
       → old.may_leave d
@@ -113,10 +113,10 @@ opening done = record {
 -- a database for which this holds. Of other programs' tables nothing more is said.
 abbrev pub ByFound : Way → Database → ((Database → Type 0) → Type 0) → Type 0
 ByFound way db Ends =
-    (Tells db (Some way.version) × way.stays db × Ends (λ now. now ≡ db))
-    ⊎ ((Tells db (Some way.version) × way.changes db
+    (SaysVersion db (Some way.version) × way.stays db × Ends (λ now. now ≡ db))
+    ⊎ ((SaysVersion db (Some way.version) × way.changes db
     × ((rows : DeskRows) → HoldsAny db rows → Ends (way.made db rows)))
-    ⊎ (Tells db None × way.creates × (IsEmptied schema_0 db → Ends (λ now. Holds now first_rows))))
+    ⊎ (SaysVersion db None × way.creates × (IsEmptied schema_0 db → Ends (λ now. Holds now first_rows))))
 
 -- a database for which that holds is shown, and is all that a crash leaves
 abbrev pub IsThere : State → (Database → Type 0) → Type 0
@@ -131,7 +131,7 @@ MayBeLeft db left Is = (d : Trees) → left d → (d ≡ db.trees) ⊎ AreTreesO
 abbrev pub IsDone : Way → Database → State → Type 0
 IsDone way db s =
     (IsTrue s.is_open × ByFound way db (IsThere s))
-    ⊎ ((s.is_open ≡ false) × MoreFaults 0 s.faults × Tells db (Some way.version)
+    ⊎ ((s.is_open ≡ false) × MoreFaults 0 s.faults × SaysVersion db (Some way.version)
     × LeavesOne s.may_leave db)
 
 -- It may not have been done: a crash leaves what was found, or else, whole, such a database.
@@ -149,7 +149,7 @@ IsOther (OtherVersion found) = ⊤
 abbrev pub IsFaultOf : {A : Type 0} → (A → Way) → Database → (Trees → Type 0) → OpenFault → Type 0
 IsFaultOf ways db left (Store fault) = ⊤
 IsFaultOf {A} ways db left (OtherVersion found) =
-    Tells db (Some found) × LeavesOne left db × ((a : A) → ¬ (found ≡ (ways a).version))
+    SaysVersion db (Some found) × LeavesOne left db × ((a : A) → ¬ (found ≡ (ways a).version))
 
 -- what a crash may leave of a connection that was just opened, and the fault is true of what it
 -- showed

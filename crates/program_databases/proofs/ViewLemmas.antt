@@ -27,7 +27,7 @@ use Rattle.desk_rows.proofs.ComesTo.{come_rows, rows_come, stored}
 use Rattle.desk_rows.specs.Desks.{AreRowsOf, KeepsRequests}
 use Rattle.desk_versions.proofs.FoundTables.{done_tells}
 use Rattle.desk_versions.specs.Creation.{AreRefused}
-use Rattle.desk_versions.specs.Openings.{AreFilesOf, AreFoundAs, HoldRowsOf, IsDone, TakesFound, Tells, opening}
+use Rattle.desk_versions.specs.Openings.{AreFilesOf, AreFoundAs, HoldRowsOf, IsDone, SaysVersion, TakesFound, opening}
 use Rattle.desk_rows.specs.Seen.{seen_in}
 use Rattle.program_desks.specs.DeskFiles.{LeavesAs, OpensAs}
 use Rattle.program_desks.specs.declared.kept_desks.Creation.{Creation}
@@ -59,7 +59,7 @@ holds_meta image s (was, found, as_found, done) d (db, sound, trees, both, meta,
     subst (seen_in s).holds same (holds_found db was sound found (trees ∙ sym same) meta whole s done)
 
 -- the version that was told is that of each table `meta` that the files hold
-tells_version : (was : Database) (meta : List MetaRow) → HoldsMeta was meta → Tells was None ⊎ Tells was (Some 2) → version_among meta ≡ Some 2
+tells_version : (was : Database) (meta : List MetaRow) → HoldsMeta was meta → SaysVersion was None ⊎ SaysVersion was (Some 2) → version_among meta ≡ Some 2
 tells_version was meta has (inl none) = absurd (no_bool (sym (has_its_meta was meta has) ∙ none))
 tells_version was meta has (inr tells) = tells.1 meta has
 

@@ -563,8 +563,8 @@ class Model(RuleBasedStateMachine):
         what a person refused is waived, or stays."""
         had = [bare(series.had[number]) for number in sorted(series.had)]
         assert {*range(1, max(series.had, default=0))} <= series.had.keys() | kept, series.had
-        ordered = [sent for sent in judged if not sent.is_let_in]
-        others = [sent for sent in judged if sent.is_let_in]
+        ordered = [sent for sent in judged if not sent.is_let_in and not sent.is_gone]
+        others = [sent for sent in judged if sent.is_let_in and not sent.is_gone]
         for at in range(0, len(had), self.parts):
             group = had[at : at + self.parts]
             if all(each == WAIVED for each in group):
@@ -576,7 +576,7 @@ class Model(RuleBasedStateMachine):
             while ordered and not self.fits(ordered[0], group, ordered[0].is_rejected or is_half):
                 assert ordered[0].is_rejected, (ordered[0], group)
                 ordered.pop(0)
-            assert ordered and not ordered[0].is_gone, group
+            assert ordered, group
             ordered.pop(0)
         assert all(sent.is_rejected for sent in [*ordered, *others]), (ordered, others)
 

@@ -46,6 +46,9 @@ MANY = [f"M{number}" for number in range(12)]
 # A price that nobody asks: with it a feed looks wrong.
 WRONG = 1000.0
 
+# Records that end too early.
+MALFORMED = b"Message,2,06,4012345000009,,,1,,,,\nProduct,R0,03,15,9780000000000\nPrice,02\nEndMessage,3\n"
+
 
 @dataclass
 class Sent:
@@ -169,9 +172,9 @@ class Model(RuleBasedStateMachine):
     def send_many(self, name: str, number: int, sent: str, is_late: bool, price: str) -> None:
         self.send(name, number, sent, is_late, dict.fromkeys(MANY, price))
 
-    @rule(name=names, data=st.sampled_from([b"", b"<cut", b'{"number": null}']))
+    @rule(name=names, data=st.sampled_from([b"", b"<cut", b'{"number": null}', MALFORMED]))
     def send_broken(self, name: str, data: bytes) -> None:
-        self.upload(name, data, False, None)
+        self.upload("g.csv" if data == MALFORMED else name, data, False, None)
 
     @precondition(lambda self: bool(self.sent))
     @rule(name=names, which=some)
@@ -425,6 +428,8 @@ class Model(RuleBasedStateMachine):
         except (Killed, SystemExit, OSError, Fault):
             assert not meanwhile
         assert not any(sent.is_rejected and not sent.refused.isdisjoint(machine.posted) for sent in self.sent.values())
+        # A name stands quoted, behind the commands.
+        assert not any("; c d'" in line for _, line in machine.lines), machine.lines
 
     @rule()
     def clean(self) -> None:
@@ -496,13 +501,11 @@ class Model(RuleBasedStateMachine):
             if file.state == "refused" and sent.is_whole and not sent.is_lost:
                 numbers = {row.number for row in inbox.ledger.messages_of(file)}
                 assert not self.is_next or numbers & self.by_hand, file
-                # A file that came again while no series was agreed is refused until it is sent once more; and one from
-                # which another file of its number took a part over, until a person dismisses it.
+                # A file that came again while no series was agreed is refused until it is sent once more.
                 is_again = file.why == posting.REASONS["unknown-series"] and not numbers
-                is_taken_over = inbox.ledger.has_stood(file) and len(numbers) < self.parts
                 # Nor is one tried again since its number is waived no longer, and another file of it came.
                 was_waived = file.why.endswith("was waived")
-                assert is_again or is_taken_over or was_waived or not self.is_had(sent, series), file
+                assert is_again or was_waived or not self.is_had(sent, series), file
 
     def is_had(self, sent: Sent, series: Series) -> bool:
         """Whether the desk has a feed of that number with the same products, by any terms."""

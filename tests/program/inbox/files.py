@@ -300,16 +300,22 @@ def refused(room: Room) -> Iterator[Outcome]:
 
 
 def halves(room: Room) -> Iterator[Outcome]:
-    """If the desk has half of a feed, another one of that number is taken if that half is the same."""
+    """A feed of which the desk has half keeps its number; another one gets all of it, once a person refused the first
+    and it is taken out."""
     inbox = inbox_in(room, "halves", words=("--parts", "2"))
     assert inbox.desk
     deliver, refused = inbox.desk.deliver, ["refused", "malformed", "1"]
     with patch.object(inbox.desk, "deliver", lambda message: deliver(message) if message[0][6] == "1" else refused):
         inbox.take("a.xml", feed_of(1, {"R1": "1.00", "R2": "1.00"}))
-    for name, amounts in ("other.xml", ("2.00", "2.00")), ("same.xml", ("1.00", "2.00")):
+    for name, amounts in ("other.xml", ("1.00", "2.00")), ("third.xml", ("3.00", "3.00")):
         inbox.take(name, feed_of(1, dict(zip(["R1", "R2"], amounts))))
-    wanted = {"a.xml": "refused", "other.xml": "refused", "same.xml": "applied"}
-    yield Outcome("another, and the same", (inbox.states(), price_of(inbox, "R2")), (wanted, "2.000"))
+    wanted = dict.fromkeys(["a.xml", "other.xml", "third.xml"], "refused")
+    yield Outcome("half of the first", (inbox.states(), [*inbox.series.had]), (wanted, [1]))
+    inbox.decide("refuse", "a.xml")
+    inbox.series.had.clear()
+    inbox.run()
+    found = inbox.states()["other.xml"], price_of(inbox, "R1"), price_of(inbox, "R2")
+    yield Outcome("all of the next", found, ("applied", "1.000", "2.000"))
 
 
 def waived(room: Room) -> Iterator[Outcome]:

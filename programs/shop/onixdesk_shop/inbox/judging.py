@@ -47,10 +47,11 @@ def judge(inbox: Inbox, file: File, gaps: Gaps) -> None:
         feed = feed_of(inbox, file, gaps, list(inbox.settings.words), inbox.terms)
         look_at(inbox, feed, gaps)
         others = {message.number: row for message in feed.messages if (row := final_row(inbox, file, message.number))}
-        new = post_again(inbox, feed, others, gaps) if others else feed
-        if new:
-            quarantine.look(inbox, new, gaps)
-            take(inbox, new, others, full.with_deletions(inbox, new, gaps))
+        if others:
+            post_again(inbox, feed, others, gaps)
+        else:
+            quarantine.look(inbox, feed, gaps)
+            take(inbox, feed, full.with_deletions(inbox, feed, gaps))
     except Refusal as refusal:
         with inbox.ledger.step():
             give_back(inbox, file)
@@ -170,12 +171,12 @@ def final_row(inbox: Inbox, file: File, number: int) -> Row | None:
     return row if row.state in STANDING or is_kept else None
 
 
-def take(inbox: Inbox, feed: Feed, others: dict[int, Row], messages: list[Message]) -> None:
-    """Gives the file its numbers and texts. A number that another file has stays that file's."""
+def take(inbox: Inbox, feed: Feed, messages: list[Message]) -> None:
+    """Gives the file its numbers and texts."""
     ledger, file = inbox.ledger, feed.file
     own = {row.number for row in ledger.messages_of(file) if row.state in (State.POSTED, State.HELD, State.APPLIED)}
     with ledger.step():
-        ledger.put(file, [message for message in messages if message.number not in own | others.keys()])
+        ledger.put(file, [message for message in messages if message.number not in own])
         ledger.set_of_file(
             file,
             number=messages[0].number,
@@ -187,32 +188,26 @@ def take(inbox: Inbox, feed: Feed, others: dict[int, Row], messages: list[Messag
         ledger.set_state(file, State.POSTING, feed.said.summary)
 
 
-def post_again(inbox: Inbox, feed: Feed, others: dict[int, Row], gaps: Gaps) -> Feed | None:
+def post_again(inbox: Inbox, feed: Feed, others: dict[int, Row], gaps: Gaps) -> None:
     """Numbers that came again in other bytes: the file is converted as their first one was, and posted once after the
-    ledger's text, but not kept. The desk says whether the contents are the same. Returns the feed if it has new numbers
-    too."""
+    ledger's text, but not kept. The desk says whether the contents are the same."""
     ledger, file = inbox.ledger, feed.file
-    first, numbers = ledger.file(others[min(others)].file), {message.number for message in feed.messages}
+    first = ledger.file(others[min(others)].file)
     words, terms = json.loads(first.words), first.terms
     if file.ending != ".csv" and (words, terms) != (feed.words, feed.terms):
         feed = feed_of(inbox, file, gaps, words, terms)
         look_at(inbox, feed, gaps)
     for message in feed.messages:
-        if message.number not in numbers:
-            raise Refusal(f"it has number {message.number} by the words and terms of its number's first file")
         if not (row := others.get(message.number)):
-            continue
+            raise Refusal(f"{first.mark} has not all of its numbers: {first.why or first.state}")
         text = full.with_deletions_of(inbox, row, message)
         if text.digest == row.digest or is_below_and_same(inbox, row, text, gaps):
             continue
         answer = inbox.desk.post(text.text)
         if isinstance(answer, Refused):
             raise Refusal(why_refused(answer))
-    if not others.keys() >= {message.number for message in feed.messages}:
-        return feed
     ledger.set_state(file, State.HAD, f"{first.mark} has its number")
     inbox.tell_file(NOTICE, file, f"had it already, by {first.mark}: {ranges([first.number or 0])}")
-    return None
 
 
 def is_below_and_same(inbox: Inbox, row: Row, message: Message, gaps: Gaps) -> bool:

@@ -95,6 +95,18 @@ def of_others(room: Room) -> Iterator[Outcome]:
         yield Outcome(f"{number}: nothing is lost", has_all, True)
 
 
+def corrected(room: Room) -> Iterator[Outcome]:
+    """A wholesaler's message to another addressee leaves its number to the corrected one, which is in the ledger."""
+    inbox = inbox_in(room, "corrected")
+    ours, theirs = ",".join([*SENDER, "", ""]), ",".join([*SENDER, *ADDRESSEE])
+    inbox.take("1.csv", message_of(1, [product_of("R1", "1.00", None)]).replace(ours, theirs))
+    inbox.take("2.csv", message_of(1, [product_of("R1", "2.00", None)]))
+    yield Outcome("its state", inbox.states(), {"1.csv": "refused", "2.csv": "applied"})
+    inbox.begin_desk()
+    inbox.run()
+    yield Outcome("over a restored desk", price_of(inbox, "R1"), "2.000")
+
+
 def older(room: Room) -> Iterator[Outcome]:
     """What a desk took before, and this one does not take yet, keeps its place in the order."""
     inbox = inbox_in(room, "older", number=NEXT)

@@ -46,7 +46,7 @@ def judge(inbox: Inbox, file: File, gaps: Gaps) -> None:
     try:
         feed = feed_of(inbox, file, gaps, list(inbox.settings.words), inbox.terms)
         look_at(inbox, feed, gaps)
-        others = {message.number: row for message in feed.messages if (row := final_row(inbox, file, message.number))}
+        others = {message.number: row for message in feed.messages if (row := final_row(inbox, file, message))}
         if others:
             post_again(inbox, feed, others, gaps)
         else:
@@ -158,17 +158,21 @@ def look_at(inbox: Inbox, feed: Feed, gaps: Gaps) -> None:
     if not inbox.settings.gives_number(feed.file.ending):
         inbox.ledger.set_of_file(feed.file, number=feed.messages[0].number)
     for message in feed.messages:
-        if message.number < gaps.first and not final_row(inbox, feed.file, message.number):
+        if message.number < gaps.first and not final_row(inbox, feed.file, message):
             raise Refusal(f"number {message.number} is below the first number of the series, {gaps.first}")
 
 
-def final_row(inbox: Inbox, file: File, number: int) -> Row | None:
-    """The message that another file has for good at a number; one that waits for an agreement keeps its number too."""
-    row = inbox.ledger.row(number)
+def final_row(inbox: Inbox, file: File, message: Message) -> Row | None:
+    """The message that another file has for good at a number. One that waits for an agreement keeps its number too, but
+    from none with another addressee."""
+    row = inbox.ledger.row(message.number)
     if not row or row.file == file.id:
         return None
-    is_kept = row.state == State.REFUSED and (row.answer == "refused,unknown-series" or row.was_taken)
-    return row if row.state in STANDING or is_kept else None
+    if row.state == State.REFUSED and row.answer == "refused,unknown-series":
+        is_kept = header_of(inbox.ledger.text(row.number)).addressee == header_of(message.text).addressee
+    else:
+        is_kept = row.state in STANDING or row.state == State.REFUSED and row.was_taken
+    return row if is_kept else None
 
 
 def take(inbox: Inbox, feed: Feed, messages: list[Message]) -> None:

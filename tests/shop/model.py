@@ -9,7 +9,7 @@ import sqlite3
 import tempfile
 import unittest
 from collections.abc import Callable
-from contextlib import closing, suppress
+from contextlib import closing
 from copy import deepcopy
 from dataclasses import dataclass, field, replace
 from hashlib import sha256
@@ -21,7 +21,7 @@ from hypothesis import settings as hypothesis_settings
 from hypothesis import strategies as st
 from hypothesis.stateful import RuleBasedStateMachine, initialize, precondition, rule
 
-from onixdesk_shop.faults import Failed, Fault
+from onixdesk_shop.faults import Fault
 from onixdesk_shop.inbox import decide, posting
 from onixdesk_shop.inbox.context import Inbox
 from onixdesk_shop.inbox.ledger import File
@@ -406,8 +406,7 @@ class Model(RuleBasedStateMachine):
         """A waiver is not made again; the desk has it until it is restored."""
         self.clean()
         number = sorted(self.waived)[which % len(self.waived)]
-        with suppress(Failed):
-            self.inbox.work(lambda inbox: decide.take_back(inbox, [number]))
+        self.inbox.work(lambda inbox: decide.take_back(inbox, [number]))
 
     # Running it
 
@@ -536,9 +535,6 @@ class Model(RuleBasedStateMachine):
             over = [sent for sent in had if self.unsure or products_of(sent) in refused]
             standing = next((sent for sent in candidates if not sent.is_rejected and sent not in over), None)
             stays = [sent for sent in candidates if sent.is_rejected and not sent.is_gone]
-            # Another file of the same products may have taken half of it over.
-            others = [sent for sent in candidates if not sent.is_rejected and sent not in resent]
-            stays += [sent for sent in others if products_of(sent) in refused]
             # Half of a feed that a person refused keeps others out, until it is corrected.
             is_kept_out = any(self.is_at(sent, series) for sent in stays)
             # An older ledger does not know what was posted or refused.

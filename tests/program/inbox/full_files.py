@@ -2,10 +2,10 @@
 
 from collections.abc import Iterator
 from contextlib import suppress
-from typing import Any
 
 from onixdesk_shop.inbox import report
 from onixdesk_shop.settings import NEXT
+from tests.program.inbox.files import inbox_in
 from tests.program.room import Room
 from tests.running import Outcome
 from tests.shop.fake_machine import FakeMachine, Killed
@@ -28,13 +28,8 @@ def named(inbox: FakeInbox) -> list[str]:
     return sorted(inbox.series.catalogue())
 
 
-def inbox_in(room: Room, name: str, **settings: Any) -> FakeInbox:
-    room.path(name).mkdir()
-    return FakeInbox(room.path(name), number=NEXT, **settings)
-
-
 def deleted(room: Room) -> Iterator[Outcome]:
-    inbox = inbox_in(room, "one", full=1, full_names=("full*",))
+    inbox = inbox_in(room, "one", number=NEXT, full=1, full_names=("full*",))
     send_all(inbox, full1=books(1, 2, 3), delta=books(4), full2=books(2, 3))
     yield Outcome("all that the last full file has not", named(inbox), ["B2", "B3"])
     inbox.send("full3.xml", feed_of(None, books(3)))
@@ -42,17 +37,17 @@ def deleted(room: Room) -> Iterator[Outcome]:
         inbox.run(FakeMachine(inbox.disk, inbox.desk, inbox.clock, ("kill", "renamed", 2)))
     inbox.run()
     yield Outcome("also by a name that it got amid a removal", named(inbox), ["B3"])
-    inbox = inbox_in(room, "three", full=3)
+    inbox = inbox_in(room, "three", number=NEXT, full=3)
     send_all(inbox, a=books(1), b=books(2), c=books(3), d=books(4), e=books(5))
     yield Outcome("a load in three files", named(inbox), ["B3", "B4", "B5"])
-    inbox = inbox_in(room, "too many", full=1)
+    inbox = inbox_in(room, "too many", number=NEXT, full=1)
     send_all(inbox, a=books(*range(60)), b=books(*range(40)))
     yield Outcome("too many", (inbox.states()["b.xml"], len(named(inbox))), ("quarantined", 60))
     send_all(inbox, c=books(*range(55)))
     yield Outcome("a newer one takes its place", (inbox.states()["b.xml"], len(named(inbox))), ("replaced", 55))
     lines = inbox.take("again.xml", feed_of(None, books(*range(40)), sent="b"))
     yield Outcome("its bytes again are told", (len(lines), inbox.states()["again.xml"]), (1, "replaced"))
-    inbox = inbox_in(room, "let in", full=1, stop=False)
+    inbox = inbox_in(room, "let in", number=NEXT, full=1, stop=False)
     send_all(inbox, a=books(*range(60)), b=books(*range(40)))
     yield Outcome("too many, whatever STOP says", inbox.states()["b.xml"], "quarantined")
     inbox.decide("let-in", "quarantined")
@@ -61,13 +56,12 @@ def deleted(room: Room) -> Iterator[Outcome]:
 
 
 def not_deleted(room: Room) -> Iterator[Outcome]:
-    room.path("missing").mkdir()
-    inbox = FakeInbox(room.path("missing"), full=1)
+    inbox = inbox_in(room, "missing", full=1)
     inbox.send("1.xml", feed_of(1, books(1, 2)))
     inbox.take("3.xml", feed_of(3, books(2)))
     inbox.take("2.xml", feed_of(2, books(1, 2, 3)))
     yield Outcome("a number is missing below", named(inbox), ["B1", "B2", "B3"])
-    inbox = inbox_in(room, "left out", full=1)
+    inbox = inbox_in(room, "left out", number=NEXT, full=1)
     said = "onixdesk: Product left out: no RecordReference: 1\n"
     inbox.take("a.xml", feed_of(None, books(1, 2)))
     told = []
@@ -81,8 +75,7 @@ def not_deleted(room: Room) -> Iterator[Outcome]:
 
 
 def of_a_resend(room: Room) -> Iterator[Outcome]:
-    room.path("resend").mkdir()
-    inbox = FakeInbox(room.path("resend"), full=1)
+    inbox = inbox_in(room, "resend", full=1)
     inbox.take("1.xml", feed_of(1, books(1, 2)))
     inbox.take("2.xml", feed_of(2, books(2)))
     inbox.take("2-again.xml", feed_of(2, books(2), sent="again"))
@@ -94,7 +87,7 @@ def of_a_resend(room: Room) -> Iterator[Outcome]:
 
 def a_load_in_files(room: Room) -> Iterator[Outcome]:
     """A file of a load does not replace another one of it that waits for a person."""
-    inbox = inbox_in(room, "load", full=5)
+    inbox = inbox_in(room, "load", number=NEXT, full=5)
     for price in ("1.00", "3.00"):
         for part in "abc":
             products = {f"{part}{number}": price if part == "a" or price == "1.00" else "1.10" for number in range(12)}

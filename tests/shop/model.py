@@ -485,15 +485,15 @@ class Model(RuleBasedStateMachine):
         return [each for sent in self.sent.values() if sent.is_rejected for each in self.all_parts(sent)]
 
     def check_states(self, inbox: Inbox, files: list[File], series: Series) -> None:
-        """The desk has what is called taken, and does not have what is called refused."""
+        """The desk has all of what is called taken, and does not have what is called refused."""
         if self.unsure:
             return
         rejected = self.rejected()
         for file in files:
             if file.state in ("applied", "held"):
-                for row in inbox.ledger.messages_of(file):
-                    if row.state == "returned":
-                        continue
+                rows = [row for row in inbox.ledger.messages_of(file) if row.state != "returned"]
+                assert len(rows) == self.parts, file
+                for row in rows:
                     had, text = series.had.get(row.number), inbox.ledger.text(row.number).decode()
                     assert had == contents_of(records_of(text)) or bare(had) in rejected, (file, had)
             sent = self.sent[file.digest]
@@ -560,24 +560,27 @@ class Model(RuleBasedStateMachine):
     def check_next(self, series: Series, judged: list[Sent], kept: set[int]) -> None:
         """The contents by number are those of the files in order of their times, except for what a person let in later;
         what a person refused is waived, or stays."""
-        had = [bare(series.had[number]) for number in sorted(series.had)]
-        assert {*range(1, max(series.had, default=0))} <= series.had.keys() | kept, series.had
-        ordered = [sent for sent in judged if not sent.is_let_in and not sent.is_gone]
-        others = [sent for sent in judged if sent.is_let_in and not sent.is_gone]
-        for at in range(0, len(had), self.parts):
-            group = had[at : at + self.parts]
-            if all(each == WAIVED for each in group):
-                continue
-            is_half = at + self.parts in self.by_hand
-            if later := next((sent for sent in others if self.fits(sent, group, sent.is_rejected or is_half)), None):
-                others.remove(later)
-                continue
-            while ordered and not self.fits(ordered[0], group, ordered[0].is_rejected or is_half):
-                assert ordered[0].is_rejected, (ordered[0], group)
-                ordered.pop(0)
-            assert ordered, group
-            ordered.pop(0)
-        assert all(sent.is_rejected for sent in [*ordered, *others]), (ordered, others)
+        numbers = sorted(series.had)
+        assert {*range(1, max(numbers, default=0))} <= {*numbers} | kept, series.had
+        groups = [numbers[at : at + self.parts] for at in range(0, len(numbers), self.parts)]
+        had = [([bare(series.had[number]) for number in group], group[-1] in self.by_hand) for group in groups]
+        stay = [sent for sent in judged if not sent.is_gone]
+        ordered, others = ([sent for sent in stay if sent.is_let_in == is_let_in] for is_let_in in (False, True))
+        found = [(group, is_half) for group, is_half in had if {*group} != {WAIVED}]
+        assert self.are_of(found, ordered, others), (found, ordered, others)
+
+    def are_of(self, groups: list[Any], ordered: list[Sent], others: list[Sent]) -> bool:
+        """Whether groups are the contents of files in order, and of others in any; of refused ones any may be missing."""
+        if not groups:
+            return all(sent.is_rejected for sent in [*ordered, *others])
+        (group, is_half), *rest = groups
+        for at, sent in enumerate(ordered):
+            if self.fits(sent, group, sent.is_rejected or is_half) and self.are_of(rest, ordered[at + 1 :], others):
+                return True
+            if not sent.is_rejected:
+                break
+        fitting = (sent for sent in others if self.fits(sent, group, sent.is_rejected or is_half))
+        return any(self.are_of(rest, ordered, [each for each in others if each is not sent]) for sent in fitting)
 
     def fits(self, sent: Sent, group: list[Contents | str | None], is_waived: bool = False) -> bool:
         """Whether a group has the contents of a feed; some parts may be waived."""

@@ -1,8 +1,8 @@
 -- The days between which a Price holds, by its PriceDates.
 use Prim.Native.String.{String}
-use Rattle.std.specs.Prelude.{ℕ, ℤ, Bool, true, ◌==◌, ◌&&◌, ◌||◌, not, List, [], ◌∷◌, ◌++◌, length}
+use Rattle.std.specs.Prelude.{ℕ, ℤ, Bool, true, ◌==◌, ◌&&◌, ◌||◌, not, List, [], ◌∷◌, ◌++◌, length, if◌then◌else◌}
 use Rattle.std.specs.Prelude.{map, fold, int_lt, take, drop, find, Option, Some, None, Result, Ok}
-use Rattle.std.specs.Prelude.{Err, if◌then◌else◌, codes, option_map, option_and_then, unwrap_or}
+use Rattle.std.specs.Prelude.{Err, codes, option_map, option_and_then, unwrap_or}
 use Rattle.std.specs.List.{list_any}
 use Rattle.std.specs.Option.{option_map_or, option_or, ok_or}
 use Rattle.std.specs.Result.{result_map_both}
@@ -140,16 +140,12 @@ or_days a b =
     then Ok (days (option_or a.first b.first) (option_or a.last b.last))
     else Err (wrong OtherDay [])
 
--- of two reasons the first that is foreign, else the first
-abbrev pub graver : Reason → Reason → Reason
-graver a b = if is_wrong a.kind && not (is_wrong b.kind) then b else a
-
--- one more behind what others say
+-- one more behind what others say: of two reasons the first that is foreign, else the first
 abbrev pub and_days : Dated → Dated → Dated
 and_days (Ok a) (Ok b) = or_days a b
 and_days (Ok a) (Err e) = Err e
 and_days (Err e) (Ok b) = Err e
-and_days (Err e) (Err f) = Err (graver e f)
+and_days (Err e) (Err f) = Err (if is_wrong e.kind && not (is_wrong f.kind) then f else e)
 
 -- the days of PriceDates behind others that say this
 abbrev pub days_behind : Dated → List Composite → Dated

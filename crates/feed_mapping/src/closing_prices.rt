@@ -1,51 +1,20 @@
 //! Which Prices of a SupplyDetail close others: those that would be written but for their dates.
 
-ghost use Rattle.std.specs.Prelude.{◌≡◌, ◌++◌, ◌&&◌, Some, None, IfOk, OnOk, codes, if◌then◌else◌, is_none};
+ghost use Rattle.std.specs.Prelude.{◌≡◌, ◌++◌, IfOk, OnOk, codes};
 ghost use Rattle.std.specs.Option.{option_to_list};
-ghost use Rattle.feed_mapping.specs.DateViews.{dated_view};
-ghost use Rattle.feed_mapping.specs.Dates.{days_in};
 ghost use Rattle.feed_mapping.specs.Elements.{composites};
-ghost use Rattle.feed_mapping.specs.Prices.{closing_kind, closing_kinds, context_view, early_reasons, free_reason, is_taken, kind_in};
-ghost use Rattle.feed_mapping.specs.Records.{first_some};
+ghost use Rattle.feed_mapping.specs.Prices.{closing_kind, closing_kinds, context_view};
 
-use crate::dates::{Dated, days_in};
+use crate::dates::{days_in, right_days};
 use crate::elements::next_composite;
 use crate::price_kinds::kind_in;
-use crate::prices::{
-    PriceContext, early_reason, free_reason, is_nothing, is_taken_then, right_days,
-};
+use crate::prices::{PriceContext, early_reason, free_reason, is_nothing, is_taken_then};
 use crate::territories::area_in;
 use csv_records::fields::FieldBuffer;
 use feed_outline::Elements;
 use feed_terms::price::Kind;
 use onix_terms::items::Items;
 use std::alloc::{AllocError, Global};
-
-// The type and currency of a Price that would be written but for its PriceDates, which are wrong.
-fn undated_kind(
-    alloc: Global,
-    context: &PriceContext<'_, '_, '_>,
-    dated: &Dated<'_>,
-    elements: &Elements<'_>,
-    fields: &mut FieldBuffer,
-) -> Result<Option<Kind>, AllocError>
-    ensures { dated_view dated.now ≡ days_in elements.now → IfOk result (λ kind. kind
-        ≡ (if is_none (first_some (early_reasons None (free_reason elements.now)
-        elements.now))
-        && is_taken (context_view context.now) elements.now
-        then Some (kind_in context.now.opening.now elements.now) else None)) }
-{
-    let area = area_in(elements);
-    if early_reason(&area, None, free_reason(elements), elements).is_some() {
-        return Ok(None);
-    }
-    let is_taken = is_taken_then(alloc, context, elements, &area, right_days(dated), fields)?;
-    if is_taken {
-        Ok(Some(kind_in(context.opening, elements)))
-    } else {
-        Ok(None)
-    }
-}
 
 // The type and currency of a Price that would be written but for its PriceDates.
 fn closing_kind(
@@ -58,10 +27,19 @@ fn closing_kind(
         (λ kind. kind ≡ closing_kind (context_view context.now) elements.now) }
 {
     let dated = days_in(elements);
-    if is_nothing(context, elements) || dated.wrong.is_none() {
+    if is_nothing(context, elements) || dated.is_ok() {
         return Ok(None);
     }
-    undated_kind(alloc, context, &dated, elements, fields)
+    let area = area_in(elements);
+    if early_reason(&area, None, free_reason(elements), elements).is_some() {
+        return Ok(None);
+    }
+    let days = right_days(&dated);
+    if is_taken_then(alloc, context, elements, &area, days, fields)? {
+        Ok(Some(kind_in(context.opening, elements)))
+    } else {
+        Ok(None)
+    }
 }
 
 // Adds the type and currency of a Price that would be written but for its PriceDates.

@@ -1,13 +1,14 @@
 //! The days between which a Price holds.
 
-ghost use Rattle.std.specs.Prelude.{◌≡◌, ◌++◌, ◌∷◌, [], Ok, codes, map, option_and_then, option_map};
+ghost use Rattle.std.specs.Prelude.{◌≡◌, ◌++◌, ◌∷◌, [], None, codes, map, option_and_then, option_map};
 ghost use Rattle.std.specs.List.{list_any};
 ghost use Rattle.std.specs.Str.{bytes_eq};
+ghost use Rattle.std.specs.Result.{result_err, result_unwrap_or};
 ghost use Rattle.feed_mapping.specs.Elements.{element_view};
-ghost use Rattle.feed_mapping.specs.DateViews.{dated_view, days_read};
-ghost use Rattle.feed_mapping.specs.PriceViews.{text_view};
-ghost use Rattle.feed_mapping.specs.Dates.{and_days, are_one, date_in, days_by_role, unless_again, parsed_day, days_in, days_of, parsed_days, digits_in, format_in, formats, graver, is_time, or_days, role_days, span, two_days};
-ghost use Rattle.feed_mapping.specs.Notes.{reason_view, wrong};
+ghost use Rattle.feed_mapping.specs.PriceViews.{reason_read};
+ghost use Rattle.feed_mapping.specs.DateViews.{days_read};
+ghost use Rattle.feed_mapping.specs.Dates.{and_days, are_one, days, date_in, days_by_role, parsed_day, days_in, days_of, parsed_days, digits_in, format_in, formats, is_time, or_days, role_days, span, two_days};
+ghost use Rattle.feed_mapping.specs.Notes.{wrong};
 ghost use Rattle.feed_mapping.specs.Records.{first_some};
 
 use crate::again::again_in;
@@ -25,11 +26,7 @@ pub struct Days {
 }
 
 /// What PriceDates say: their days, or why they leave their Price out.
-#[derive(Clone, Copy, Debug)]
-pub struct Dated<'a> {
-    pub days: Days,
-    pub wrong: Option<Reason<'a>>,
-}
+pub type Dated<'a> = Result<Days, Reason<'a>>;
 
 const NO_DAYS: Days = Days {
     first: None,
@@ -170,7 +167,7 @@ fn is_format(format: &[u8]) -> bool
 }
 
 // The days of a text of such a format, or that it is no month, year or day.
-fn parsed_days<'a>(format: &[u8], text: &'a [u8]) -> Result<Days, Reason<'a>>
+fn parsed_days<'a>(format: &[u8], text: &'a [u8]) -> Dated<'a>
     ensures { days_read result ≡ parsed_days format.now text.now }
 {
     let (days, kind) = if format == b"01".as_slice() {
@@ -188,7 +185,7 @@ fn parsed_days<'a>(format: &[u8], text: &'a [u8]) -> Result<Days, Reason<'a>>
 
 // The two days of a Date.
 #[tactic(auto, unfolding(crate::specs::Dates::two_days))]
-fn two_days<'a>(text: &'a [u8]) -> Result<Days, Reason<'a>>
+fn two_days<'a>(text: &'a [u8]) -> Dated<'a>
     ensures { days_read result ≡ two_days text.now }
 {
     if text.len() != 16 {
@@ -238,7 +235,7 @@ fn format_in<'a>(date: Option<&'a Line>, elements: &Elements<'a>) -> &'a [u8]
 }
 
 // The days of the Date of a role that has one day.
-fn one_day<'a>(role: &'a [u8], elements: &Elements<'a>) -> Result<Days, Reason<'a>>
+fn one_day<'a>(role: &'a [u8], elements: &Elements<'a>) -> Dated<'a>
     ensures { days_read result
         ≡ role_days elements.now formats (parsed_days (format_in elements.now)) role.now }
 {
@@ -254,7 +251,7 @@ fn one_day<'a>(role: &'a [u8], elements: &Elements<'a>) -> Result<Days, Reason<'
 }
 
 // The days of the Date of the role that has two.
-fn both_days<'a>(role: &'a [u8], elements: &Elements<'a>) -> Result<Days, Reason<'a>>
+fn both_days<'a>(role: &'a [u8], elements: &Elements<'a>) -> Dated<'a>
     ensures { days_read result ≡ role_days elements.now (codes "06" ∷ []) two_days role.now }
 {
     let date = date_in(elements);
@@ -269,7 +266,7 @@ fn both_days<'a>(role: &'a [u8], elements: &Elements<'a>) -> Result<Days, Reason
 }
 
 // What a PriceDate says by its role.
-fn read_role<'a>(elements: &Elements<'a>) -> Result<Days, Reason<'a>>
+fn read_role<'a>(elements: &Elements<'a>) -> Dated<'a>
     ensures { days_read result ≡ days_by_role elements.now }
 {
     let role = text_or_empty(b"PriceDateRole", elements);
@@ -293,29 +290,14 @@ fn read_role<'a>(elements: &Elements<'a>) -> Result<Days, Reason<'a>>
     Err(Reason::wrong(Wrong::DateRole, role))
 }
 
-// Days, unless an element comes again.
-fn unless_again<'a>(name: Option<&'static [u8]>, days: Days) -> Dated<'a>
-    ensures { dated_view result ≡ unless_again (text_view name.entry) (Ok days) }
-{
-    match name {
-        None => Dated { days, wrong: None },
-        Some(name) => Dated {
-            days: NO_DAYS,
-            wrong: Some(Reason::wrong(Wrong::ComesAgain, name)),
-        },
-    }
-}
-
-// What a PriceDate says.
+// What a PriceDate says, unless an element comes again in it.
 fn days_of<'a>(elements: &Elements<'a>) -> Dated<'a>
-    ensures { dated_view result ≡ days_of elements.now }
+    ensures { days_read result ≡ days_of elements.now }
 {
-    match read_role(elements) {
-        Ok(days) => unless_again(again_in(elements), days),
-        Err(reason) => Dated {
-            days: NO_DAYS,
-            wrong: Some(reason),
-        },
+    let days = read_role(elements)?;
+    match again_in(elements) {
+        None => Ok(days),
+        Some(name) => Err(Reason::wrong(Wrong::ComesAgain, name)),
     }
 }
 
@@ -334,52 +316,34 @@ fn are_one(one: Option<Day>, other: Option<Day>) -> bool
 
 // The days of both, where they give no first and no last day that is another.
 fn or_days<'a>(days: Days, more: Days) -> Dated<'a>
-    ensures { dated_view result ≡ or_days days more }
+    ensures { days_read result ≡ or_days days more }
 {
     if are_one(days.first, more.first) && are_one(days.last, more.last) {
-        let days = Days {
+        Ok(Days {
             first: days.first.or(more.first),
             last: days.last.or(more.last),
-        };
-        return Dated { days, wrong: None };
-    }
-    Dated {
-        days: NO_DAYS,
-        wrong: Some(Reason::wrong(Wrong::OtherDay, b"")),
-    }
-}
-
-// Of two reasons the first that is foreign, else the first.
-fn graver<'a>(one: Reason<'a>, other: Reason<'a>) -> Reason<'a>
-    ensures { reason_view result ≡ graver (reason_view one.entry) (reason_view other.entry) }
-{
-    if one.kind.is_wrong() && !other.kind.is_wrong() {
-        other
+        })
     } else {
-        one
+        Err(Reason::wrong(Wrong::OtherDay, b""))
     }
 }
 
-// What one more PriceDate says behind others.
+// What one more PriceDate says behind others; of two reasons the first that is foreign, else the
+// first.
 fn and_days<'a>(one: &Dated<'a>, other: &Dated<'a>) -> Dated<'a>
-    ensures { dated_view result ≡ and_days (dated_view one.now) (dated_view other.now) }
+    ensures { days_read result ≡ and_days (days_read one.now) (days_read other.now) }
 {
-    match one.wrong {
-        None => match other.wrong {
-            None => or_days(one.days, other.days),
-            Some(reason) => Dated {
-                days: NO_DAYS,
-                wrong: Some(reason),
-            },
+    match one {
+        Ok(days) => match other {
+            Ok(more) => or_days(*days, *more),
+            Err(reason) => Err(*reason),
         },
-        Some(reason) => match other.wrong {
-            None => Dated {
-                days: NO_DAYS,
-                wrong: Some(reason),
-            },
-            Some(second) => Dated {
-                days: NO_DAYS,
-                wrong: Some(graver(reason, second)),
+        Err(reason) => match other {
+            Ok(_) => Err(*reason),
+            Err(second) => if reason.kind.is_wrong() && !second.kind.is_wrong() {
+                Err(*second)
+            } else {
+                Err(*reason)
             },
         },
     }
@@ -391,16 +355,33 @@ fn and_days<'a>(one: &Dated<'a>, other: &Dated<'a>) -> Dated<'a>
 /// element comes again in one, or where two give two first or two last days: for the first reason
 /// that is foreign, else for the first.
 pub fn days_in<'a>(elements: &Elements<'a>) -> Dated<'a>
-    ensures { dated_view result ≡ days_in elements.now }
+    ensures { days_read result ≡ days_in elements.now }
 {
-    let mut dated = Dated {
-        days: NO_DAYS,
-        wrong: None,
-    };
+    let mut dated = Ok(NO_DAYS);
     let mut rest = elements.copy();
     while let Some((found, behind)) = next_composite(b"PriceDate", &rest) {
         dated = and_days(&dated, &days_of(&found.below));
         rest = behind;
     }
     dated
+}
+
+/// The reason for which PriceDates leave their Price out.
+pub(crate) fn wrong_date<'a>(dated: &Dated<'a>) -> Option<Reason<'a>>
+    ensures { reason_read result ≡ result_err (days_read dated.now) }
+{
+    match dated {
+        Ok(_) => None,
+        Err(reason) => Some(*reason),
+    }
+}
+
+/// The days, none where they are wrong.
+pub(crate) fn right_days(dated: &Dated<'_>) -> Days
+    ensures { result ≡ result_unwrap_or (days_read dated.now) (days None None) }
+{
+    match dated {
+        Ok(days) => *days,
+        Err(_) => NO_DAYS,
+    }
 }

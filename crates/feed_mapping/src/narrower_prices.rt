@@ -1,17 +1,17 @@
 //! Which Prices of a SupplyDetail go before those of the world, and what these exclude then.
 
-ghost use Rattle.std.specs.Prelude.{◌≡◌, ◌&&◌, IfOk, OnOk, Some, None, codes, if◌then◌else◌, is_none, not};
+ghost use Rattle.std.specs.Prelude.{◌≡◌, ◌&&◌, IfOk, OnOk, Some, None, codes, is_none, not, if◌then◌else◌};
 ghost use Rattle.std.specs.List.{list_any};
 ghost use Rattle.feed_mapping.specs.Elements.{composites};
 ghost use Rattle.feed_mapping.specs.Prices.{alike_in, context_view, first_in, firsts_in, is_like, is_of_countries, may_lack, narrowed, right_days, with_first};
 ghost use Rattle.feed_mapping.specs.Territories.{AreRenamed, area_in, area_reason, area_view};
 
-use crate::dates::{Days, days_in};
+use crate::dates::{Days, days_in, right_days, wrong_date};
 use crate::elements::{elements_in, next_composite, text_or_empty};
 use crate::minimums::{copies_of, greater_of, own_minimum};
 use crate::narrower::{Alike, First, countries_left, excluded_then};
 use crate::price_kinds::kind_in;
-use crate::prices::{PriceContext, early_reason, right_days, wrong_date};
+use crate::prices::{PriceContext, early_reason};
 use crate::records::{may_be_empty, parsed_quantity};
 use crate::regions::{countries_written, names_world};
 use crate::territories::{Area, Renamed, area_in, area_reason, renamed_in};

@@ -1,16 +1,13 @@
 //! Prices.
 
-ghost use Rattle.std.specs.Prelude.{◌≡◌, ◌++◌, ◌∷◌, ◌<◌, [], ℕ, List, None, Some, IfOk, IsErrOf, OnOk, false, true, ◌&&◌, if◌then◌else◌, find, is_some, map, not, codes, option_map};
+ghost use Rattle.std.specs.Prelude.{◌≡◌, ◌++◌, ◌∷◌, ◌<◌, [], ℕ, List, None, Some, IfOk, IsErrOf, OnOk, false, true, ◌&&◌, find, is_some, map, not, codes, option_map};
 ghost use Rattle.std.specs.List.{list_all};
 ghost use Rattle.std.specs.Option.{option_copied, option_to_list};
-ghost use Rattle.std.specs.Result.{result_err, result_unwrap_or};
 ghost use Rattle.std.specs.Str.{is_utf8};
-ghost use Rattle.feed_mapping.specs.DateViews.{dated_view};
-ghost use Rattle.feed_mapping.specs.Dates.{days, days_in};
 ghost use Rattle.feed_mapping.specs.Elements.{composites, first, text_or_empty};
 ghost use Rattle.feed_mapping.specs.Notes.{foreign, is_wrong, note_views, wrong};
 ghost use Rattle.feed_mapping.specs.Outcomes.{notes_below, outcome_notes, outcome_records};
-ghost use Rattle.feed_mapping.specs.PriceViews.{reason_read, text_view};
+ghost use Rattle.feed_mapping.specs.PriceViews.{AreOwned, reason_read, text_view};
 ghost use Rattle.feed_mapping.specs.Amounts.{amount_written, rounded_text};
 ghost use Rattle.feed_mapping.specs.Prices.{closed_reason, context_view, first_with_text, is_other_qualifier, is_taken, kind_in, last_reason, long_reason, narrowed, written_fields, early_reasons, eight_fields, fields_in, free_reason, is_for_others, is_limited, is_nothing, is_other, late_reasons, old_element, outcome_of, price_fields, price_outcome, price_reasons, right_days};
 ghost use Rattle.feed_mapping.specs.Records.{first_some, option_filter, parsed};
@@ -20,7 +17,7 @@ ghost use Rattle.onix_records.specs.Gives.{Gives};
 ghost use Rattle.onix_records.specs.Price.{day_field, price_of};
 ghost use Rattle.feed_outline.specs.Composites.{text_in};
 
-use crate::dates::{Dated, Days, days_in};
+use crate::dates::{Days, days_in, right_days, wrong_date};
 use crate::discounts::push_counted;
 use crate::elements::{Composite, first_composite, next_composite, text_or_empty};
 use crate::minimums::{greater_of, own_minimum};
@@ -29,7 +26,7 @@ use crate::narrower_prices::narrowed_in;
 use crate::notes::{Foreign, Note, Reason, Wrong, push_reason};
 use crate::price_amounts::{amount_said, is_zero, rounded_text};
 use crate::price_kinds::{has_kind, kind_in};
-use crate::reasons::{field_reason, or_price};
+use crate::reasons::field_reason;
 use crate::records::{former, push_texts};
 use crate::territories::{
     Area, Renamed, area_fields, area_in, form_reason, push_territory_notes, renamed_in, unsupported,
@@ -173,13 +170,6 @@ pub(crate) fn because_old(text: Option<&'static [u8]>) -> Option<Reason<'static>
     }
 }
 
-// The reason for which PriceDates leave their Price out.
-pub(crate) fn wrong_date<'a>(dated: &Dated<'a>) -> Option<Reason<'a>>
-    ensures { reason_read result ≡ result_err (dated_view dated.now) }
-{
-    dated.wrong
-}
-
 fn if_foreign<'a>(reason: Option<Reason<'a>>) -> Option<Reason<'a>>
     ensures { reason_read result
         ≡ option_filter (λ r. not (is_wrong r.kind)) (reason_read reason.entry) }
@@ -204,19 +194,6 @@ fn if_wrong<'a>(reason: Option<Reason<'a>>) -> Option<Reason<'a>>
             None
         },
         None => None,
-    }
-}
-
-// The days, none where they are wrong.
-pub(crate) fn right_days(dated: &Dated<'_>) -> Days
-    ensures { result ≡ result_unwrap_or (dated_view dated.now) (days None None) }
-{
-    match dated.wrong {
-        None => dated.days,
-        Some(_) => Days {
-            first: None,
-            last: None,
-        },
     }
 }
 
@@ -339,10 +316,8 @@ fn owned_texts(
     area: &Area<'_>,
     days: Days,
 ) -> Result<Owned, AllocError>
-    ensures amount { IfOk result (λ o. o.amount ≡ rounded_text elements.now) }
+    ensures texts { IfOk result (λ o. AreOwned o days elements.now) }
     ensures renamed { IfOk result (λ o. AreRenamed o.renamed (area_view area.now)) }
-    ensures first { IfOk result (λ o. o.first ≡ day_field days.first) }
-    ensures last { IfOk result (λ o. o.last ≡ day_field days.last) }
 {
     Ok(Owned {
         amount: rounded_text(alloc, amount_said(elements))?,
@@ -369,10 +344,7 @@ fn eight_texts<'b>(
     territory: [&'b [u8]; 3],
     elements: &Elements<'b>,
 ) -> [&'b [u8]; 8]
-    ensures { (days : Days)
-        → owned.now.amount ≡ rounded_text elements.now
-        → owned.now.first ≡ day_field days.first → owned.now.last ≡ day_field days.last
-        → map (λ t. t.now) result
+    ensures { (days : Days) → AreOwned owned.now days elements.now → map (λ t. t.now) result
         ≡ eight_fields (map (λ t. t.now) territory.entry) days elements.now }
 {
     let [included, world, excluded] = territory;
@@ -486,16 +458,14 @@ fn take_texts<'b>(
     elements: &Elements<'b>,
     fields: &mut FieldBuffer,
 ) -> Result<bool, AllocError>
-    ensures record { owned.now.amount ≡ rounded_text elements.now
-        → owned.now.first ≡ day_field (right_days elements.now).first
-        → owned.now.last ≡ day_field (right_days elements.now).last → IfOk result (λ is. is ≡ true
+    ensures record { AreOwned owned.now (right_days elements.now) elements.now
+        → IfOk result (λ is. is ≡ true
         → fields.new ≡ codes "Price" ∷ fields_in (context_view context.now) elements.now
         (map (λ t. t.now) territory.entry)) }
-    ensures taken { owned.now.amount ≡ rounded_text elements.now
-        → owned.now.first ≡ day_field (right_days elements.now).first
-        → owned.now.last ≡ day_field (right_days elements.now).last → IfOk result (λ is. is
-        ≡ is_some (parsed (price_of context.now.opening.now) (fields_in (context_view context.now)
-        elements.now (map (λ t. t.now) territory.entry)))) }
+    ensures taken { AreOwned owned.now (right_days elements.now) elements.now
+        → IfOk result (λ is. is ≡ is_some (parsed (price_of context.now.opening.now)
+        (fields_in (context_view context.now) elements.now
+        (map (λ t. t.now) territory.entry)))) }
 {
     let minimum = greater_of(own_minimum(elements), context.minimum);
     take_price(
@@ -542,16 +512,12 @@ fn take_narrowed<'b>(
     fields: &mut FieldBuffer,
 ) -> Result<bool, AllocError>
     ensures record { option_copied excluded.entry ≡ narrowed (context_view context.now) elements.now
-        → owned.now.amount ≡ rounded_text elements.now
-        → owned.now.first ≡ day_field (right_days elements.now).first
-        → owned.now.last ≡ day_field (right_days elements.now).last
+        → AreOwned owned.now (right_days elements.now) elements.now
         → fields.old ≡ codes "Price" ∷ price_fields (context_view context.now) elements.now
         → IfOk result (λ is. is ≡ true
         → fields.new ≡ codes "Price" ∷ written_fields (context_view context.now) elements.now) }
     ensures taken { option_copied excluded.entry ≡ narrowed (context_view context.now) elements.now
-        → owned.now.amount ≡ rounded_text elements.now
-        → owned.now.first ≡ day_field (right_days elements.now).first
-        → owned.now.last ≡ day_field (right_days elements.now).last
+        → AreOwned owned.now (right_days elements.now) elements.now
         → is_taken (context_view context.now) elements.now ≡ true
         → IfOk result (λ is. is ≡ is_some (parsed (price_of context.now.opening.now)
         (written_fields (context_view context.now) elements.now))) }
@@ -577,16 +543,12 @@ fn push_price<'b>(
     records: &mut RecordBuffer,
 ) -> Result<Option<Reason<'static>>, AllocError>
     ensures reason { option_copied excluded.entry ≡ narrowed (context_view context.now) elements.now
-        → owned.now.amount ≡ rounded_text elements.now
-        → owned.now.first ≡ day_field (right_days elements.now).first
-        → owned.now.last ≡ day_field (right_days elements.now).last
+        → AreOwned owned.now (right_days elements.now) elements.now
         → is_taken (context_view context.now) elements.now ≡ true
         → IfOk result (λ reason. reason_read reason
         ≡ long_reason (context_view context.now) elements.now) }
     ensures record { option_copied excluded.entry ≡ narrowed (context_view context.now) elements.now
-        → owned.now.amount ≡ rounded_text elements.now
-        → owned.now.first ≡ day_field (right_days elements.now).first
-        → owned.now.last ≡ day_field (right_days elements.now).last
+        → AreOwned owned.now (right_days elements.now) elements.now
         → fields.old ≡ codes "Price" ∷ price_fields (context_view context.now) elements.now
         → is_taken (context_view context.now) elements.now ≡ true
         → OnOk result (records.new ≡ records.old ++ outcome_records
@@ -623,7 +585,10 @@ fn write_price<'a>(
     let territory = area_fields(area, &owned.renamed);
     if !take_texts(alloc, context, &owned, territory, elements, fields)? {
         let field = field_reason(alloc, context.opening, area, &owned.renamed, elements)?;
-        return Ok(Some(or_price(field)));
+        return match field {
+            Some(reason) => Ok(Some(reason)),
+            None => Ok(Some(Reason::wrong(Wrong::Price, b""))),
+        };
     }
     if let Some(reason) = closed_reason(context, elements) {
         return Ok(Some(reason));

@@ -1,5 +1,5 @@
 use Rattle.std.proofs.Common.{◌≡◌, length}
-use Rattle.feed_mapping.specs.DateViews.{dated_view}
+use Rattle.feed_mapping.specs.DateViews.{days_read}
 use Rattle.feed_mapping.specs.Dates.{days_behind, days_in}
 use Rattle.std.specs.Prelude.{codes}
 use Rattle.feed_mapping.specs.Elements.{composites}
@@ -7,7 +7,7 @@ use Rattle.feed_mapping.proofs.dates.days_in.Given as goal
 
 abbrev pub invariant-loop-found : goal.invariant-loop-found
 invariant-loop-found l =
-    days_behind (dated_view l.dated) (composites (codes "PriceDate") l.rest) ≡ days_in l.elements
+    days_behind (days_read l.dated) (composites (codes "PriceDate") l.rest) ≡ days_in l.elements
 
 abbrev pub decreases-loop-found : goal.decreases-loop-found
 decreases-loop-found l = length (composites (codes "PriceDate") l.rest)

@@ -1,4 +1,4 @@
-use Rattle.std.proofs.Common.{◌≡◌, ◌∙◌, ◌∷◌, [], Option, refl, subst, sym}
+use Rattle.std.proofs.Common.{◌≡◌, ◌∙◌, ◌∷◌, [], Option, ap, refl, subst, sym}
 use Rattle.std.specs.Option.{unwrap_or}
 use Rattle.onix_records.specs.Fields.{optional, or_default}
 use Rattle.onix_terms.specs.Code.{code2_of, currency_of}
@@ -11,6 +11,7 @@ use Rattle.feed_mapping.specs.Prices.{own_minimum}
 use Rattle.feed_mapping.specs.Records.{first_some, invalid, parsed_term}
 use Rattle.feed_mapping.specs.Territories.{Area, AreRenamed, area_in, area_reason}
 use Rattle.feed_mapping.specs.declared.notes.Wrong.TheVariants as bad
+use Rattle.feed_terms.specs.declared.price.Kind.{Kind}
 use Rattle.feed_mapping.proofs.ElementLaws.{text-or-none}
 use Rattle.feed_mapping.proofs.reasons.field_reason.Goals as goal
 
@@ -28,14 +29,12 @@ returns c at renamed =
     let made = c.unless.ensures in cc in
     let typed : reason_read c.unless-2.result ≡ invalid (or_default (parsed_term code2_of) header.default_type) bad.PriceType (text_at "PriceType" nodes) =
     let text = c.text_or_empty-type_text.ensures in
-    let read = c.parsed_code.ensures in
-    let own = c.value_or_default-price_type.ensures in
+    let own = ap (λ (k : Kind). k.price_type) c.kind_in-kind.ensures in
     let is = c.is_some-2.ensures in
     let made = c.unless-2.ensures in cc in
     let coded : reason_read c.unless-3.result ≡ invalid (or_default (parsed_term currency_of) header.default_currency) bad.Currency (text_at "CurrencyCode" nodes) =
     let text = c.text_or_empty-currency_text.ensures in
-    let read = c.parsed_currency.ensures in
-    let own = c.value_or_default-currency.ensures in
+    let own = ap (λ (k : Kind). k.currency) c.kind_in-kind.ensures in
     let is = c.is_some-3.ensures in
     let made = c.unless-3.ensures in cc in
     let placed : reason_read c.in_ok-area_reason.field-0 ≡ area_reason (area_in nodes) =

@@ -230,7 +230,7 @@ def a_wholesaler_that_is_gone(room: Room) -> Iterator[Outcome]:
     references = ["R1", '"R,""2"""', '"A, B"']
     with machine(room, with_products(1, [f"{each},03,15,9781234567897" for each in references])) as desk:
         yield Outcome("a wholesaler that is gone: its offers", desk.prices(), {"a": ["20.000"] * 3})
-        ran = desk.run(block_with(PAGE, "split -l 19998"))
+        ran = desk.run(block_with(PAGE, "split -l 9998"))
         answer = b"applied,north,2,replaced=0,updated=0,deleted=3,unknown=0,ignored=0"
         found = ran.status, ran.output.splitlines()[-1]
         yield Outcome("a wholesaler that is gone: its records", found, (0, answer))
@@ -238,13 +238,13 @@ def a_wholesaler_that_is_gone(room: Room) -> Iterator[Outcome]:
 
 
 def very_many_records(room: Room) -> Iterator[Outcome]:
-    """Those of one ISBN, also with quotation marks and commas in their references, and no others."""
+    """Those of one ISBN, with quotation marks and commas in their references too, none named like it."""
     a, b = "9781234567897", "9781234567880"
-    products = [f"R,03,15,{b}", f"R1,03,15,{a}", f'"R,""2""",03,01,X9,15,{a}', f"R3,02,03,{a}"]
-    (edit,) = re.findall("`(/978[0-9]+/s)` in place of `(.*?)`", (ROOT / PAGE).read_text(encoding="utf-8"))
+    products = [f"{a},03,15,{b}", f"R1,03,15,{a}", f'"R,""2""",03,01,X9,15,{a}', f"R3,02,03,{a}"]
+    (edit,) = re.findall("`(/,.*978[0-9]+.*?/s)` in place of `(.*?)`", (ROOT / PAGE).read_text(encoding="utf-8"))
     with machine(room, with_products(6, products)) as desk:
         yield Outcome("many records: before", desk.prices(), {"a": ["20.000"] * 3, "b": ["20.000"]})
-        ran = desk.run(["\n".join(block_with(PAGE, "split -l 19998")).replace(edit[1], edit[0])])
+        ran = desk.run(["\n".join(block_with(PAGE, "split -l 9998")).replace(edit[1], edit[0])])
         answer = b"applied,north,7,replaced=0,updated=0,deleted=3,unknown=0,ignored=0"
         yield Outcome("many records are deleted", (ran.status, ran.output.splitlines()[-1]), (0, answer))
         yield Outcome("many records: behind", desk.prices(), {"b": ["20.000"]})

@@ -340,30 +340,6 @@ class Ledger:
         query = "SELECT reference FROM reference WHERE NOT deleted AND number < ? ORDER BY reference"
         return [reference for (reference,) in self.rows(query, number)]
 
-    # Titles
-
-    def put_titles(self, file: File, titles: dict[str, list[str]]) -> None:
-        """Notes what a file says of each ISBN, unless a later one said something."""
-        with self.step():
-            for isbn, texts in titles.items():
-                self.do(
-                    "INSERT INTO title VALUES (?, ?, ?, ?) ON CONFLICT (isbn) DO UPDATE SET number = excluded.number,"
-                    " at = excluded.at, said = excluded.said WHERE excluded.number >= number",
-                    *(isbn, file.number, file.at, json.dumps(texts)),
-                )
-            self.set_of_file(file, titled=1)
-
-    def count_titled(self) -> int:
-        return int(self.value("SELECT count(*) FROM file WHERE titled"))
-
-    def titled_isbns(self) -> list[str]:
-        return [isbn for (isbn,) in self.rows("SELECT isbn FROM title")]
-
-    def titles(self, digits: str) -> list[list[Any]]:
-        """ISBN, number, second and texts of each title whose ISBN begins with these digits."""
-        rows = self.rows("SELECT * FROM title WHERE isbn BETWEEN ? AND ?", digits, f"{digits}99999")
-        return [[*head, *json.loads(said)] for *head, said in rows]
-
     # Decisions
 
     def decide(self, what: str, file: File | None = None, number: int | None = None, subject: str = "") -> None:

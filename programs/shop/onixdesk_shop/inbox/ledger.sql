@@ -48,11 +48,12 @@ CREATE TABLE reference (
 CREATE INDEX reference_by_number ON reference (number);
 
 CREATE TABLE title (
-    isbn TEXT PRIMARY KEY,
+    id INTEGER PRIMARY KEY,                 -- greater than that of each row that was written before
+    isbn TEXT NOT NULL UNIQUE,
     number INTEGER NOT NULL,                -- of the applied file that said it last
     at INTEGER NOT NULL,                    -- in seconds: when that was applied
     said TEXT NOT NULL                      -- title, subtitle, contributors, publisher; none if it is deleted
-) STRICT, WITHOUT ROWID;
+) STRICT;
 
 CREATE TABLE decision (
     id INTEGER PRIMARY KEY,

@@ -3,7 +3,6 @@ that begin with the same digits. An object has a list for each ISBN; the list ha
 taken first: series, number, second, and, unless the title is deleted, title, subtitle, contributors, publisher."""
 
 import json
-from collections.abc import Iterable
 
 from onixdesk_shop.faults import BadEnd
 from onixdesk_shop.feeds import read_by
@@ -16,47 +15,56 @@ DIGITS, FOLDER_DIGITS = 8, 5
 
 FOLDER = "titles"
 
+# Within a series, the message with the greatest number counts.
+PUT = """\
+INSERT INTO title (isbn, number, at, said) VALUES (?, ?, ?, ?) ON CONFLICT (isbn) DO UPDATE SET
+    id = (SELECT max(id) + 1 FROM title), number = excluded.number, at = excluded.at, said = excluded.said
+WHERE excluded.number >= number"""
+
+LAST = "SELECT coalesce(max(id), 0) FROM title"
+
 
 def keep(inbox: Inbox) -> None:
-    """Reads the titles of files that were applied since, and writes the page's files. A mark beside these has the number
-    of files whose titles they have. If the ledger has read another number, a run was killed, or the folder or the ledger
-    is another one: then all are written."""
-    machine, folder = inbox.machine, inbox.places.state / FOLDER
+    """Reads the titles of files that were applied since, and writes those that the page's files lack. A mark beside these
+    has the last one that they have. All are written where there is none, or the ledger has not come so far."""
+    ledger, machine, folder = inbox.ledger, inbox.machine, inbox.places.state / FOLDER
     mark = folder / f"{inbox.series}.json"
     written = machine.read_json(mark) or 0
-    is_known = written == inbox.ledger.count_titled()
-    new = inbox.ledger.files("NOT titled AND state = 'applied' AND ending <> '.csv'")
-    changed = {isbn for file in new for isbn in read(inbox, file)}
-    if written != (count := inbox.ledger.count_titled()):
+    since = written if written <= ledger.value(LAST) else 0
+    for file in ledger.files("NOT titled AND state = 'applied' AND ending <> '.csv'"):
+        read(inbox, file)
+    if isbns := [isbn for (isbn,) in ledger.rows("SELECT isbn FROM title WHERE id > ?", since)]:
         machine.make_folder(folder, 0o755)
         with machine.lock(folder):
-            write(inbox, changed if is_known else inbox.ledger.titled_isbns())
-            machine.write_whole(mark, json.dumps(count).encode())
+            for digits in {isbn[:DIGITS] for isbn in isbns}:
+                write(inbox, digits)
+            machine.write_whole(mark, str(ledger.value(LAST)).encode())
 
 
-def read(inbox: Inbox, file: File) -> Iterable[str]:
-    """Puts into the ledger what a file says of each ISBN, and returns these ISBNs."""
-    found: dict[str, list[str]] = {}
+def read(inbox: Inbox, file: File) -> None:
+    """Puts into the ledger what a file says of each ISBN."""
+    said: dict[str, list[str]] = {}
     try:
         for line in read_by(inbox.machine, "feed_titles", inbox.stored(file)).splitlines():
             isbn, is_deletion, *texts = json.loads(line)
-            if not is_deletion or isbn not in found:
-                found[isbn] = [] if is_deletion else texts
+            if not is_deletion or isbn not in said:
+                said[isbn] = [] if is_deletion else texts
     except BadEnd as end:
         inbox.tell_file(WARNING, file, f"no titles: {end}")
-    inbox.ledger.put_titles(file, found)
-    return found
+    with inbox.ledger.step():
+        for isbn, texts in said.items():
+            inbox.ledger.do(PUT, isbn, file.number, file.at, json.dumps(texts))
+        inbox.ledger.set_of_file(file, titled=1)
 
 
-def write(inbox: Inbox, isbns: Iterable[str]) -> None:
-    """Replaces what the files of these ISBNs have of this series; other inboxes write them too."""
-    machine, folder = inbox.machine, inbox.places.state / FOLDER
-    for digits in {isbn[:DIGITS] for isbn in isbns}:
-        path = folder / digits[:FOLDER_DIGITS] / f"{digits}.json"
-        machine.make_folder(path.parent, 0o755)
-        kept = machine.read_json(path).items()
-        found = {isbn: [each for each in entries if each[0] != inbox.series] for isbn, entries in kept}
-        for isbn, *entry in inbox.ledger.titles(digits):
-            entries = [*found.get(isbn, []), [inbox.series, *entry]]
-            found[isbn] = sorted(entries, key=lambda each: int(each[2]), reverse=True)
-        machine.write_whole(path, json.dumps(found, separators=(",", ":"), ensure_ascii=False).encode())
+def write(inbox: Inbox, digits: str) -> None:
+    """Replaces what the file of these digits has of this series; other inboxes write it too."""
+    machine, path = inbox.machine, inbox.places.state / FOLDER / digits[:FOLDER_DIGITS] / f"{digits}.json"
+    machine.make_folder(path.parent, 0o755)
+    kept = machine.read_json(path).items()
+    found = {isbn: [each for each in entries if each[0] != inbox.series] for isbn, entries in kept}
+    query = "SELECT isbn, number, at, said FROM title WHERE isbn BETWEEN ? AND ?"
+    for isbn, number, at, said in inbox.ledger.rows(query, digits, f"{digits}99999"):
+        entries = [*found.get(isbn, []), [inbox.series, number, at, *json.loads(said)]]
+        found[isbn] = sorted(entries, key=lambda each: int(each[2]), reverse=True)
+    machine.write_whole(path, json.dumps(found, separators=(",", ":"), ensure_ascii=False).encode())

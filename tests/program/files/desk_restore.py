@@ -232,7 +232,7 @@ def titles(room: Room) -> Iterator[Outcome]:
     shop = shop_in(room, "titles")
     copy = four_days(shop)
     folder = shop.inbox.places.state / "titles"
-    for path in *shop.inbox.ledger.parent.glob("ledger.db*"), shop.database:
+    for path in *shop.inbox.ledger.parent.rglob("*.*"), shop.database:
         path.unlink()
     shutil.rmtree(folder)
     shop.inbox.desk = None

@@ -3,6 +3,7 @@ that begin with the same digits. An object has a list for each ISBN; the list ha
 taken first: series, number, second, and, unless the title is deleted, title, subtitle, contributors, publisher."""
 
 import json
+from pathlib import Path
 
 from onixdesk_shop.faults import BadEnd
 from onixdesk_shop.feeds import read_by
@@ -13,32 +14,28 @@ from onixdesk_shop.lines import WARNING
 # The page fetches a file for all ISBNs that share so many digits; folders share five.
 DIGITS, FOLDER_DIGITS = 8, 5
 
-FOLDER = "titles"
-
 # Within a series, the message with the greatest number counts.
 PUT = """\
 INSERT INTO title (isbn, number, at, said) VALUES (?, ?, ?, ?) ON CONFLICT (isbn) DO UPDATE SET
     id = (SELECT max(id) + 1 FROM title), number = excluded.number, at = excluded.at, said = excluded.said
 WHERE excluded.number >= number"""
 
-LAST = "SELECT coalesce(max(id), 0) FROM title"
-
 
 def keep(inbox: Inbox) -> None:
     """Reads the titles of files that were applied since, and writes those that the page's files lack. A mark beside these
-    has the last one that they have. All are written where there is none, or the ledger has not come so far."""
-    ledger, machine, folder = inbox.ledger, inbox.machine, inbox.places.state / FOLDER
+    has the last row that they have. All are written where there is none, or the ledger has not come so far."""
+    ledger, machine, folder = inbox.ledger, inbox.machine, inbox.places.state / "titles"
     mark = folder / f"{inbox.series}.json"
     written = machine.read_json(mark) or 0
-    since = written if written <= ledger.value(LAST) else 0
+    since = written if ledger.value("SELECT count(*) FROM title WHERE id >= ?", written) else 0
     for file in ledger.files("NOT titled AND state = 'applied' AND ending <> '.csv'"):
         read(inbox, file)
-    if isbns := [isbn for (isbn,) in ledger.rows("SELECT isbn FROM title WHERE id > ?", since)]:
+    if rows := ledger.rows("SELECT isbn, id FROM title WHERE id > ? ORDER BY id", since):
         machine.make_folder(folder, 0o755)
         with machine.lock(folder):
-            for digits in {isbn[:DIGITS] for isbn in isbns}:
-                write(inbox, digits)
-            machine.write_whole(mark, str(ledger.value(LAST)).encode())
+            for digits in {isbn[:DIGITS] for isbn, _ in rows}:
+                write(inbox, folder / digits[:FOLDER_DIGITS], digits)
+            machine.write_whole(mark, str(rows[-1][1]).encode())
 
 
 def read(inbox: Inbox, file: File) -> None:
@@ -57,10 +54,10 @@ def read(inbox: Inbox, file: File) -> None:
         inbox.ledger.set_of_file(file, titled=1)
 
 
-def write(inbox: Inbox, digits: str) -> None:
+def write(inbox: Inbox, folder: Path, digits: str) -> None:
     """Replaces what the file of these digits has of this series; other inboxes write it too."""
-    machine, path = inbox.machine, inbox.places.state / FOLDER / digits[:FOLDER_DIGITS] / f"{digits}.json"
-    machine.make_folder(path.parent, 0o755)
+    machine, path = inbox.machine, folder / f"{digits}.json"
+    machine.make_folder(folder, 0o755)
     kept = machine.read_json(path).items()
     found = {isbn: [each for each in entries if each[0] != inbox.series] for isbn, entries in kept}
     query = "SELECT isbn, number, at, said FROM title WHERE isbn BETWEEN ? AND ?"

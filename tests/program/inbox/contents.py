@@ -11,13 +11,15 @@ from contextlib import suppress
 from dataclasses import replace
 from typing import Any
 
+from onixdesk_shop.inbox import report
+from onixdesk_shop.settings import NEXT
 from tests.program.inbox.files import inbox_in
 from tests.program.room import Room
 from tests.running import Outcome
 from tests.shop.fake_machine import FakeMachine, Killed
 from tests.shop.fake_program import SENDER, feed_of, isbn_of, message_of, product_of
 from tests.shop.feeds import Book, feed
-from tests.shop.inboxes import SERIES, FakeInbox
+from tests.shop.inboxes import SERIES, START, FakeInbox
 
 DAY = 86_400
 
@@ -121,3 +123,23 @@ def titles(room: Room) -> Iterator[Outcome]:
     inbox.run()
     changed = page_files(inbox).pop(f"{isbn_of('R1')[:8]}.json")
     yield Outcome("deleted by the greatest", [entry[:2] for entry in changed[isbn_of("R1")]], [[SERIES, 3]])
+
+
+def of_many_refused(room: Room) -> Iterator[Outcome]:
+    """The first lines of a report, which are mailed, have the last files and what is quarantined."""
+    inbox = inbox_in(room, "many", number=NEXT)
+    for place in range(40):
+        inbox.send(f"{place}.xml", b"<cut" * (place + 1))
+    inbox.take("good.xml", feed_of(None, {"R1": "1.00"}))
+    inbox.take("late.xml", feed_of(None, {"R1": "2.00"}), START - 100)
+    names = [line.rpartition("; ")[2] for line in inbox.says(report.report).splitlines()[:25]]
+    yield Outcome("the last file, and quarantine", {"good.xml", "late.xml"} <= {*names}, True)
+
+
+def left_under_another_name(room: Room) -> Iterator[Outcome]:
+    """A file that stays in its folder is not taken again under the name that it gets once the next one has its own."""
+    inbox = inbox_in(room, "left", leave=True)
+    inbox.take("daily.xml", b"<cut")
+    (inbox.incoming / "daily.xml").rename(inbox.incoming / f"taken-{inbox.files()[0].mark}-daily.xml")
+    lines = inbox.take("daily.xml", feed_of(1, {"R1": "1.00"}))
+    yield Outcome("the next one alone", lines, ["applied: number 1; daily.xml"])

@@ -16,7 +16,7 @@ PROGRAM = Path(__file__).resolve().parent.parent.parent / "bin/desk-follow"
 # The rows of each table.
 Tables = dict[str, list[Row]]
 
-TABLES = ["meta", "series", "held", "applied", "record", "article", "offer", "price", "price_minimum"]
+TABLES = ["series", "held", "applied", "record", "article", "offer", "price", "price_minimum"]
 
 
 def words_of(room: Room, database: str, *words: Word) -> list[Word]:

@@ -9,7 +9,9 @@ from onixdesk_shop.lines import cut
 from onixdesk_shop.machine import Machine
 from onixdesk_shop.messages import records_of
 
-SERIES = "SELECT name, sender_type, sender_value, addressee_type, addressee_value, first_number FROM series"
+SERIES = """\
+SELECT name, sender_type, sender_value, addressee_type, addressee_value, first_number, next_number
+FROM series ORDER BY name"""
 NUMBERS = "SELECT series, number, contents = 'waived' FROM {} ORDER BY series, number"
 
 
@@ -55,7 +57,7 @@ class Contents:
 def contents_of(machine: Machine, database: Path) -> Contents:
     found = Contents()
     with machine.reading(database) as connection:
-        for name, *parties in connection.execute(SERIES):
+        for name, *parties, _ in connection.execute(SERIES):
             found.agreements[name] = ",".join(["Agree", name, *map(str, parties)])
         for table in ("applied", "held"):
             for name, number, is_waived in connection.execute(NUMBERS.format(table)):

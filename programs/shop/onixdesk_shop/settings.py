@@ -64,11 +64,9 @@ class Settings:
 def read_lines(machine: Machine, path: Path) -> dict[str, tuple[int, str]]:
     """The value of each NAME in a file, and its line."""
     try:
-        text = machine.read(path).decode("utf-8")
+        text = machine.read(path).decode("utf-8", "replace")
     except OSError as error:
         raise BadCall(f"{path}: {error.strerror}") from None
-    except UnicodeDecodeError:
-        raise BadCall(f"{path}: it is not UTF-8") from None
     found: dict[str, tuple[int, str]] = {}
     for place, line in enumerate(text.split("\n"), 1):
         if not line.strip() or line.lstrip().startswith("#"):

@@ -1,14 +1,11 @@
 """docs/REPORTS.md: each of its questions in SQL is asked as it stands, and its output compared."""
 
-import contextlib
 import json
-import sqlite3
 from collections.abc import Iterator
 
 from tests.program.documents.examples import blocks, commands, example, like_the_repository, written
 from tests.program.room import Ran, Room, needs
 from tests.running import Outcome
-from tools.root import ROOT
 
 PAGE = "docs/REPORTS.md"
 TITLES = "/var/lib/onixdesk-state"
@@ -42,17 +39,3 @@ def questions(room: Room) -> Iterator[Outcome]:
         came = room.call(["sh", "-c", command.replace(TITLES, str(room.folder))])
         yield Outcome(f"{PAGE}: {command}", came, Ran(0, written(shown)))
     yield Outcome(f"{PAGE}: its questions", len(asked), 5)
-
-
-def tables(room: Room) -> Iterator[Outcome]:
-    """The page names each table and each column but the one of the version."""
-    text = ROOT.joinpath(PAGE).read_text(encoding="utf-8")
-    room.run("--db", "shop.db", "batch", given=example("examples/shop/monday.csv"))
-    with contextlib.closing(sqlite3.connect(room.path("shop.db"))) as desk:
-        found = [name for name, in desk.execute("SELECT name FROM sqlite_schema WHERE type = 'table' ORDER BY name")]
-        columns = {row[1] for name in found for row in desk.execute(f"PRAGMA table_info({name})")}
-    yield Outcome(
-        f"{PAGE}: the tables", [name for name in found if f"- `{name}`" not in text and f", `{name}`" not in text], []
-    )
-    yield Outcome(f"{PAGE}: the columns", sorted(name for name in columns - {"item"} if f"`{name}`" not in text), [])
-    yield Outcome(f"{PAGE}: the tables of the desk", len(found), 9)

@@ -1,4 +1,4 @@
-"""The keys of a rule, as in the table of docs/FORMATS.md, and those of a term, as in the example of docs/ONIX.md."""
+"""The keys of a rule, as in the table of docs/FORMATS.md."""
 
 import re
 from collections.abc import Iterator
@@ -11,9 +11,6 @@ ROW = re.compile(r"^\| `([a-z]+)` \| [^|]* \| (yes|no) \|$", re.MULTILINE)
 
 # Where the page names them.
 IN_PAGE = re.compile(r"(?:isRule\(\{ |, )([a-z]+)(?=[^\n]*, \.\.\.others)")
-
-# A line of the example of a term, and whether it may be left out.
-TERM_LINE = re.compile(r"^    ([a-z]+) = ([^#]*[^# ]) +# (optional: )?", re.MULTILINE)
 
 
 def text_of(name: str) -> str:
@@ -34,20 +31,3 @@ def keys(room: Room) -> Iterator[Outcome]:
         yield Outcome(f"keys of a rule, without one: {left_out}", came, status)
     room.write("rules.toml", b'[[rule]]\nseries = "*"\ncodes = ["20"]\nmin = "1"\n')
     yield Outcome("keys of a rule: another one", room.run("rules", "rules.toml").status, 2)
-
-
-def example_term() -> tuple[dict[str, str], set[str]]:
-    """The keys of the example with the text after them, and those that are needed."""
-    found = TERM_LINE.findall(text_of("docs/ONIX.md").partition("[[term]]")[2].partition("\n\n")[0])
-    return {key: value for key, value, _ in found}, {key for key, _, optional in found if not optional}
-
-
-def keys_of_a_term(room: Room) -> Iterator[Outcome]:
-    term, needed = example_term()
-    for left_out in ("", *term):
-        # A scheme is allowed only beside codes.
-        without = {left_out, "scheme"} if left_out == "codes" else {left_out}
-        text = "".join(f"{key} = {value}\n" for key, value in term.items() if key not in without)
-        room.write("terms.toml", f"[[term]]\n{text}".encode())
-        status = 2 if left_out in needed else 0
-        yield Outcome(f"keys of a term, without one: {left_out}", room.run("terms", "terms.toml").status, status)

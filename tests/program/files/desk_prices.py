@@ -95,6 +95,9 @@ def a_file_of_prices(room: Room) -> Iterator[Outcome]:
     room.write("desk.json", json.dumps(SETTINGS | {"price_file": {"columns": ["isbn"], "file": "x"}}).encode())
     came = run(room)
     yield Outcome("a wrong key", (came.status, came.errors), (2, b"desk-prices: desk.json: price_file: file\n"))
+    room.write("desk.json", json.dumps(SETTINGS | {"price_type": "03"}).encode())
+    came, kept = run(room), room.path("till/prices.csv").read_text()
+    yield Outcome("nothing is chosen", (came.status, kept), (1, f'{ONE};"6,00"\n{TWO};\n'))
     came = run(room, "--day", "20250230")
     yield Outcome("no day of the calendar", (came.status, b"20250230 is not a day YYYYMMDD" in came.errors), (2, True))
 

@@ -240,6 +240,18 @@ def unanswered(room: Room) -> Iterator[Outcome]:
     yield Outcome("nobody waits", shop.inbox.clock - before < 10, True)
 
 
+def unanswered_below(room: Room) -> Iterator[Outcome]:
+    """A text whose answer was lost is not posted below the first number, and an error says so."""
+    shop = shop_in(room, "below")
+    run(shop)
+    shop.inbox.work(lambda inbox: inbox.ledger.set_message(2, "posted"))
+    machine = shop.inbox.machine()
+    lines = [line.partition("; ")[2] for line in shop.inbox.run(machine)]
+    posted = [text for text in machine.posted if text.startswith(b"Message")]
+    line = "refused: number 2 is below the first number of the series, 3; 2.xml"
+    yield Outcome("below the first number", (posted, lines, shop.inbox.shown()["refused"]), ([], [line], 1))
+
+
 class WrittenMeanwhile(ShopMachine):
     """A desk where a number is waived, and a feed comes, while the new one is made."""
 

@@ -1,6 +1,7 @@
 """A restored copy: what is said before, what is made again, and what the inboxes post."""
 
 import argparse
+import json
 import os
 import shutil
 from collections.abc import Iterator
@@ -224,6 +225,22 @@ def ledgers(room: Room) -> Iterator[Outcome]:
     shop.inbox.run()
     run(shop, copy, gaps=True)
     yield Outcome("where one has no file", [*shop.inbox.states()], ["1.xml"])
+
+
+def titles(room: Room) -> Iterator[Outcome]:
+    """On a new machine the page has the titles of the copy."""
+    shop = shop_in(room, "titles")
+    copy = four_days(shop)
+    folder = shop.inbox.places.state / "titles"
+    for path in *shop.inbox.ledger.parent.rglob("*.*"), shop.database:
+        path.unlink()
+    shutil.rmtree(folder)
+    shop.inbox.desk = None
+    yield Outcome("the status", run(shop, copy), 0)
+    shop.inbox.run()
+    isbn = isbn_of("R1")
+    entries = json.loads((folder / isbn[:5] / f"{isbn[:8]}.json").read_text())[isbn]
+    yield Outcome("as the first feed said", [[*entry[:2], entry[3]] for entry in entries], [[SERIES, 1, "Title R1"]])
 
 
 def corrections(room: Room) -> Iterator[Outcome]:

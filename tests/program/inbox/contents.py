@@ -2,16 +2,24 @@
 
 import gzip
 import io
+import json
 import os
+import shutil
 import zipfile
 from collections.abc import Iterator
+from contextlib import suppress
 from dataclasses import replace
+from typing import Any
 
+from onixdesk_shop.inbox import report
+from onixdesk_shop.settings import NEXT
+from tests.program.inbox.files import inbox_in
 from tests.program.room import Room
 from tests.running import Outcome
-from tests.shop.fake_program import SENDER, message_of, product_of
+from tests.shop.fake_machine import FakeMachine, Killed
+from tests.shop.fake_program import SENDER, feed_of, isbn_of, message_of, product_of
 from tests.shop.feeds import Book, feed
-from tests.shop.inboxes import FakeInbox
+from tests.shop.inboxes import SERIES, START, FakeInbox
 
 DAY = 86_400
 
@@ -92,3 +100,46 @@ def of_the_program(room: Room) -> Iterator[Outcome]:
     inbox.clock += 30 * DAY
     said = [line for line in inbox.run() if line.startswith("not taken")]
     yield Outcome("not taken, told once", (len(said), [line for line in inbox.run() if "taken" in line]), (3, []))
+
+
+def page_files(inbox: FakeInbox) -> dict[str, Any]:
+    """What the page may fetch of titles."""
+    return {path.name: json.loads(path.read_text()) for path in inbox.places.state.glob("titles/*/*.json")}
+
+
+def titles(room: Room) -> Iterator[Outcome]:
+    """Within a series the greatest number counts. If the folder is lost, or a run dies, the next one writes all of it."""
+    inbox = inbox_in(room, "titles")
+    inbox.take("1.xml", feed_of(1, {"R1": "1.00", "R2": "2.00"}))
+    said = [SERIES, 1, inbox.files()[0].at, "Title R1", "", "", ""]
+    files = page_files(inbox)
+    yield Outcome("said", files[f"{isbn_of('R1')[:8]}.json"], {isbn_of("R1"): [said]})
+    shutil.rmtree(inbox.places.state / "titles")
+    yield Outcome("a lost folder", (inbox.run(), page_files(inbox)), ([], files))
+    inbox.send("3.xml", feed_of(3, {"R1": "-"}))
+    inbox.send("2.xml", feed_of(2, {"R1": "1.00"}))
+    with suppress(Killed):
+        inbox.run(FakeMachine(inbox.disk, inbox.desk, inbox.clock, ("kill", "write", 2)))
+    inbox.run()
+    changed = page_files(inbox).pop(f"{isbn_of('R1')[:8]}.json")
+    yield Outcome("deleted by the greatest", [entry[:2] for entry in changed[isbn_of("R1")]], [[SERIES, 3]])
+
+
+def of_many_refused(room: Room) -> Iterator[Outcome]:
+    """The first lines of a report, which are mailed, have the last files and what is quarantined."""
+    inbox = inbox_in(room, "many", number=NEXT)
+    for place in range(40):
+        inbox.send(f"{place}.xml", b"<cut" * (place + 1))
+    inbox.take("good.xml", feed_of(None, {"R1": "1.00"}))
+    inbox.take("late.xml", feed_of(None, {"R1": "2.00"}), START - 100)
+    names = [line.rpartition("; ")[2] for line in inbox.says(report.report).splitlines()[:25]]
+    yield Outcome("the last file, and quarantine", {"good.xml", "late.xml"} <= {*names}, True)
+
+
+def left_under_another_name(room: Room) -> Iterator[Outcome]:
+    """A file that stays in its folder is not taken again under the name that it gets once the next one has its own."""
+    inbox = inbox_in(room, "left", leave=True)
+    inbox.take("daily.xml", b"<cut")
+    (inbox.incoming / "daily.xml").rename(inbox.incoming / f"taken-{inbox.files()[0].mark}-daily.xml")
+    lines = inbox.take("daily.xml", feed_of(1, {"R1": "1.00"}))
+    yield Outcome("the next one alone", lines, ["applied: number 1; daily.xml"])

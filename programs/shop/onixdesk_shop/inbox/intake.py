@@ -126,7 +126,7 @@ def remove(inbox: Inbox, entry: Entry, mark: str) -> None:
 
 def subject_of(entry: Entry) -> str:
     """By this a file that was left in its folder is recognized: several may have the same bytes."""
-    return f"left {entry.size} {entry.modified} {shown(entry.name)}"
+    return f"left {entry.size} {entry.modified} {shown(name_of(entry))}"
 
 
 def adopt(inbox: Inbox) -> None:

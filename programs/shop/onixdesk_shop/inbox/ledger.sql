@@ -47,6 +47,14 @@ CREATE TABLE reference (
 ) STRICT, WITHOUT ROWID;
 CREATE INDEX reference_by_number ON reference (number);
 
+CREATE TABLE title (
+    id INTEGER PRIMARY KEY,                 -- greater than that of each row that was written before
+    isbn TEXT NOT NULL UNIQUE,
+    number INTEGER NOT NULL,                -- of the applied file that said it last
+    at INTEGER NOT NULL,                    -- in seconds: when that was applied
+    said TEXT NOT NULL                      -- title, subtitle, contributors, publisher; none if it is deleted
+) STRICT;
+
 CREATE TABLE decision (
     id INTEGER PRIMARY KEY,
     at INTEGER NOT NULL,
@@ -65,4 +73,5 @@ BEGIN SELECT raise(ABORT, 'a number has one text'); END;
 CREATE TRIGGER files_stay BEFORE DELETE ON file BEGIN SELECT raise(ABORT, 'rows stay'); END;
 CREATE TRIGGER messages_stay BEFORE DELETE ON message BEGIN SELECT raise(ABORT, 'rows stay'); END;
 CREATE TRIGGER references_stay BEFORE DELETE ON reference BEGIN SELECT raise(ABORT, 'rows stay'); END;
+CREATE TRIGGER titles_stay BEFORE DELETE ON title BEGIN SELECT raise(ABORT, 'rows stay'); END;
 CREATE TRIGGER decisions_stay BEFORE DELETE ON decision BEGIN SELECT raise(ABORT, 'rows stay'); END;

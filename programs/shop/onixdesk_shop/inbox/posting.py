@@ -49,20 +49,22 @@ def post_all(inbox: Inbox, gaps: Gaps) -> Gaps:
         if again := [row.number for row in rows if row.state in (State.HELD, State.APPLIED) and gaps.lacks(row.number)]:
             inbox.tell(NOTICE, f"posted again, since the desk lacks it: {ranges(again)}")
         for row in rows:
-            post_row(inbox, row)
+            post_row(inbox, row, gaps)
         gaps = inbox.gaps()
     return gaps
 
 
-def post_row(inbox: Inbox, row: Row) -> None:
-    """Posts one message. First it writes down that it does: from then on the text is final."""
+def post_row(inbox: Inbox, row: Row, gaps: Gaps) -> None:
+    """Posts one message. First it writes down that it does: from then on the text is final. Below the first number nothing
+    is posted, and it ends as the desk would refuse it."""
     current = inbox.ledger.row(row.number)
     if not current or current.state not in (State.READY, State.POSTED, State.HELD, State.APPLIED):
         # A message earlier in this round gave its number back.
         return
     if current.state == State.READY:
         inbox.ledger.set_message(row.number, State.POSTED)
-    answer = inbox.desk.post(inbox.ledger.text(row.number))
+    below = Refused("before-first", [inbox.series, str(row.number), str(gaps.first)])
+    answer = below if row.number < gaps.first else inbox.desk.post(inbox.ledger.text(row.number))
     if isinstance(answer, Taken) and answer.series != inbox.series:
         answer = Refused("other-series", [answer.series])
     with inbox.ledger.step():

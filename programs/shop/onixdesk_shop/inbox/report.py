@@ -40,9 +40,9 @@ def lines(inbox: Inbox) -> Iterator[str]:
         yield f"{name}: {value}"
     if gaps and gaps.missing:
         yield "missing: " + ", ".join(f"{low} to {high}" for low, high in gaps.missing)
-    for file in inbox.ledger.files(WAITING):
-        yield f"{file.mark}: {file.state} since {moment(file.at)}: {cut(file.why) or '-'}; {token(file.name)}"
     yield from of_the_week(inbox)
+    for file in sorted(inbox.ledger.files(WAITING), key=lambda file: file.state != "quarantined"):
+        yield f"{file.mark}: {file.state} since {moment(file.at)}: {cut(file.why) or '-'}; {token(file.name)}"
     yield from not_verified(inbox)
     yield from not_alike(inbox, gaps)
     yield from not_named(inbox)

@@ -13,7 +13,7 @@ from onixdesk_shop.faults import Fault
 
 # The version of the tables that the follower knows, and these tables.
 VERSION = 2
-TABLES = ("meta", "series", "held", "applied", "record", "article", "offer", "price", "price_minimum")
+TABLES = ("series", "held", "applied", "record", "article", "offer", "price", "price_minimum")
 
 # How PostgreSQL's COPY reads a value: \N is NULL.
 ESCAPES = [("\\", "'\\\\'"), ("\t", "'\\t'"), ("\n", "'\\n'"), ("\r", "'\\r'")]
@@ -77,7 +77,7 @@ def script(source: sqlite3.Connection, rules: list[dict[str, Any]], moment: int)
     for table in TABLES:
         yield from rows_of(table, lines_of(source, table))
     yield from rows_of("rule", map(rule_line, itertools.count(1), rules))
-    yield f"DELETE FROM desk.moment; INSERT INTO desk.moment (taken) VALUES (to_timestamp({moment / 1e9}));\n".encode()
+    yield f"DELETE FROM desk.moment; INSERT INTO desk.moment VALUES (to_timestamp({moment / 1e9}));\n".encode()
     # Keys are made after the rows, which is quicker.
     yield where_new(f"{KEYS}{FUNCTIONS}COMMENT ON SCHEMA desk IS :'mark';").encode()
     yield f"ANALYZE {', '.join(f'desk.{table}' for table in TABLES)}; COMMIT;\n".encode()

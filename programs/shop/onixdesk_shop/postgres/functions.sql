@@ -120,9 +120,8 @@ BEGIN
     ), wanted AS MATERIALIZED (
         SELECT p.series, p.reference, p.place, p.amount, p.from_day, p.until_day, coalesce(m.minimum, 1) AS minimum
         FROM offered o
-        JOIN desk.price p ON p.series = o.series AND p.reference = o.reference AND p.place = o.place
-        LEFT JOIN desk.price_minimum m ON m.series = p.series AND m.reference = p.reference AND m.place = p.place
-            AND m.price_place = p.price_place
+        JOIN desk.price p USING (series, reference, place)
+        LEFT JOIN desk.price_minimum m USING (series, reference, place, price_place)
         WHERE p.price_type = calendar.type AND p.currency = calendar.currency
             AND desk.has_country(o.included, o.world, o.excluded, calendar.country)
             AND desk.has_country(p.included, p.world, p.excluded, calendar.country)

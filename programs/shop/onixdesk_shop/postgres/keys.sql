@@ -1,5 +1,3 @@
--- Made after the rows, which is quicker.
-ALTER TABLE desk.meta ADD PRIMARY KEY (item);
 ALTER TABLE desk.series ADD PRIMARY KEY (name);
 ALTER TABLE desk.held ADD PRIMARY KEY (series, number);
 ALTER TABLE desk.applied ADD PRIMARY KEY (series, number);
@@ -10,4 +8,3 @@ ALTER TABLE desk.offer ADD PRIMARY KEY (series, reference, place);
 ALTER TABLE desk.price ADD PRIMARY KEY (series, reference, place, price_place);
 ALTER TABLE desk.price_minimum ADD PRIMARY KEY (series, reference, place, price_place);
 ALTER TABLE desk.rule ADD PRIMARY KEY (rule);
-ALTER TABLE desk.moment ADD PRIMARY KEY (is_one);

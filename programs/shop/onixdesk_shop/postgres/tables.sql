@@ -1,10 +1,6 @@
 -- The desk's tables, with the columns and keys that they have in its file (AgreementRows.antt and RecordRows.antt in
 -- crates/desk_tables/specs). Rows come from a copy whose foreign keys hold, so none are tested here. Texts are ordered
 -- by their bytes.
-CREATE TABLE desk.meta (
-    item text COLLATE "C" NOT NULL,
-    amount bigint NOT NULL
-);
 CREATE TABLE desk.series (
     name text COLLATE "C" NOT NULL,
     sender_type text COLLATE "C" NOT NULL,
@@ -87,6 +83,5 @@ CREATE TABLE desk.rule (
 
 -- The moment of which all rows here are; one row.
 CREATE TABLE desk.moment (
-    is_one boolean NOT NULL DEFAULT true CHECK (is_one),
     taken timestamp with time zone NOT NULL
 );

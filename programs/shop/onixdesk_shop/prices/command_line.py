@@ -8,8 +8,7 @@ from onixdesk_shop.copies.copying import copied
 from onixdesk_shop.desk import answers_in
 from onixdesk_shop.desk_files import DeskFile
 from onixdesk_shop.ends import day_word, parser_of, program_of
-from onixdesk_shop.faults import DONE, Fault
-from onixdesk_shop.lines import WARNING
+from onixdesk_shop.faults import DONE, Failed, Fault
 from onixdesk_shop.machine import Machine
 from onixdesk_shop.messages import Records
 from onixdesk_shop.places import DESK_JSON, PROGRAM, STATE
@@ -71,8 +70,8 @@ def work(machine: Machine, options: argparse.Namespace) -> int:
             chosen += bool(cells["price"])
             lines.append(form.line(cells))
     if machine.exists(options.folder / FILE):
+        if isbns and not chosen:
+            raise Failed(f"nothing is chosen for any of {len(isbns)} articles, so the file stays as it was (PRICES.md)")
         machine.write_whole(options.folder / BEFORE, machine.read(options.folder / FILE), 0o640)
     machine.write_whole(options.folder / FILE, "".join(lines).encode(), 0o640)
-    if isbns and not chosen:
-        machine.tell(WARNING, f"nothing is chosen for any of {len(isbns)} articles, so none has a price (PRICES.md)")
     return DONE

@@ -8,7 +8,7 @@ from pathlib import Path
 
 from onixdesk_shop.batches import send
 from onixdesk_shop.copies.copying import copy_desk
-from onixdesk_shop.desk_files import contents_of
+from onixdesk_shop.desk_files import SERIES, contents_of
 from onixdesk_shop.faults import Failed
 from onixdesk_shop.lines import cut
 from onixdesk_shop.machine import Machine
@@ -27,9 +27,6 @@ RENEWED = {"series": OF_SERIES} | dict.fromkeys(("held", "record", "article", "o
 
 # The contents of a waived number.
 WAIVED = "waived"
-SERIES = """\
-SELECT name, sender_type, sender_value, addressee_type, addressee_value, first_number, next_number
-FROM series ORDER BY name"""
 HELD = "SELECT number, contents FROM held WHERE series = ? ORDER BY number"
 
 

@@ -323,14 +323,12 @@ class Model(RuleBasedStateMachine):
         with closing(sqlite3.connect(self.inbox.ledger)) as ledger:
             rejected = {digest for digest, in ledger.execute("SELECT digest FROM file WHERE state = 'rejected'")}
         # What came since is converted with the terms of that time, if a desk lacks it too.
-        numbers = (number for desk in self.desks() for number in desk.series[SERIES].had)
+        desks = [self.desk, *self.copies]
+        numbers = (number for desk in desks for number in desk.series[SERIES].had)
         self.unsure |= {0, *self.ever, *numbers}
         for sent in self.sent.values():
             sent.is_rejected, sent.is_gone = digest_of(sent.data) in rejected, False
-            sent.was_had = sent.was_had or any(self.is_at(sent, desk.series[SERIES]) for desk in self.desks())
-
-    def desks(self) -> list[FakeDesk]:
-        return [self.desk, *self.copies]
+            sent.was_had = sent.was_had or any(self.is_at(sent, desk.series[SERIES]) for desk in desks)
 
     def is_at(self, sent: Sent, series: Series) -> bool:
         """Whether a desk has a part of a feed at its number."""

@@ -15,8 +15,6 @@ from tests.shop.fake_program import feed_of
 
 HOUR, DAY = 3_600, 86_400
 
-PLAIN = "a.xml"
-
 # Names from others that mean something to a shell, to a journal or to a mail.
 NAMES = [
     "sale.xml: stopped: 1998 of 2000 prices change .. 3.33; runuser -u root -- sh -c 'id|sh' takes it, thanks, W.xml",
@@ -47,7 +45,7 @@ def lines_under(room: Room, name: str, place: int) -> list[str]:
 
 def names_of_others(room: Room) -> Iterator[Outcome]:
     """A line is the same as for a file with a plain name, except for its last word."""
-    plain = [shlex.split(line) for line in lines_under(room, PLAIN, 0)]
+    plain = [shlex.split(line) for line in lines_under(room, "a.xml", 0)]
     yield Outcome("the lines", len(plain), 5)
     for place, name in enumerate(NAMES, 1):
         lines = lines_under(room, name, place)

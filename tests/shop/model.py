@@ -129,6 +129,7 @@ class Model(RuleBasedStateMachine):
 
     def upload(self, name: str, data: bytes, is_whole: bool, number: int | None, is_late: bool = False) -> None:
         """A wholesaler that overwrites its file before it is taken has sent nothing: this one waits."""
+        name = "g.csv" if data == MALFORMED else name
         if (self.inbox.incoming / name).exists():
             self.clean()
         is_new = is_whole and self.inbox.work(lambda inbox: self.is_refused(inbox, data))
@@ -174,7 +175,7 @@ class Model(RuleBasedStateMachine):
 
     @rule(name=names, data=st.sampled_from([b"", b"<cut", b'{"number": null}', MALFORMED]))
     def send_broken(self, name: str, data: bytes) -> None:
-        self.upload("g.csv" if data == MALFORMED else name, data, False, None)
+        self.upload(name, data, False, None)
 
     @precondition(lambda self: bool(self.sent))
     @rule(name=names, which=some)
@@ -323,14 +324,12 @@ class Model(RuleBasedStateMachine):
         with closing(sqlite3.connect(self.inbox.ledger)) as ledger:
             rejected = {digest for digest, in ledger.execute("SELECT digest FROM file WHERE state = 'rejected'")}
         # What came since is converted with the terms of that time, if a desk lacks it too.
-        numbers = (number for desk in self.desks() for number in desk.series[SERIES].had)
+        desks = [self.desk, *self.copies]
+        numbers = (number for desk in desks for number in desk.series[SERIES].had)
         self.unsure |= {0, *self.ever, *numbers}
         for sent in self.sent.values():
             sent.is_rejected, sent.is_gone = digest_of(sent.data) in rejected, False
-            sent.was_had = sent.was_had or any(self.is_at(sent, desk.series[SERIES]) for desk in self.desks())
-
-    def desks(self) -> list[FakeDesk]:
-        return [self.desk, *self.copies]
+            sent.was_had = sent.was_had or any(self.is_at(sent, desk.series[SERIES]) for desk in desks)
 
     def is_at(self, sent: Sent, series: Series) -> bool:
         """Whether a desk has a part of a feed at its number."""
@@ -464,7 +463,7 @@ class Model(RuleBasedStateMachine):
         self.check_full(inbox, series)
 
     def check_seen(self, files: list[File]) -> None:
-        """Each sent file has a row, its bytes are there, and waiting files are counted."""
+        """Each sent file has a row, its bytes are there, and files that wait, or are refused, are counted."""
         assert {file.digest for file in files} == set(self.sent)
         first = min(((file.time, file.name, file.id) for file in files if file.state == "quarantined"), default=None)
         for file in files:
@@ -477,7 +476,8 @@ class Model(RuleBasedStateMachine):
             assert sent.is_whole or file.state not in ("applied", "held", "had"), file
         shown = self.inbox.shown()
         assert shown["waiting"] == sum(file.state in ("new", "posting", "held") for file in files)
-        assert shown["quarantined"] == sum(file.state == "quarantined" for file in files)
+        for state in ("quarantined", "refused"):
+            assert shown[state] == sum(file.state == state for file in files)
         assert shown["desk"]
 
     def rejected(self) -> list[Contents | str | None]:

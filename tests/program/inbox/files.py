@@ -39,9 +39,8 @@ def order(room: Room) -> Iterator[Outcome]:
     inbox.take("delta-9.xml", feed_of(None, {"R1": "9.00"}), START - 200)
     yield Outcome("by their times", price_of(inbox, "R1"), "10.000")
     inbox.take("late.xml", feed_of(None, {"R1": "8.00"}), START - 300)
-    yield Outcome(
-        "older than the last one", (inbox.states()["late.xml"], price_of(inbox, "R1")), ("quarantined", "10.000")
-    )
+    found = inbox.states()["late.xml"], price_of(inbox, "R1")
+    yield Outcome("older than the last one", found, ("quarantined", "10.000"))
     inbox.decide("refuse", "quarantined")
     lines = inbox.take("twice.xml", feed_of(None, {"R1": "10.00"}))
     yield Outcome(

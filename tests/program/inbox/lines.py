@@ -12,11 +12,8 @@ from tests.program.room import Room
 from tests.running import Outcome
 from tests.shop.fake_desk import WAIVED
 from tests.shop.fake_program import feed_of
-from tests.shop.inboxes import FakeInbox
 
 HOUR, DAY = 3_600, 86_400
-
-PLAIN = "a.xml"
 
 # Names from others that mean something to a shell, to a journal or to a mail.
 NAMES = [
@@ -48,7 +45,7 @@ def lines_under(room: Room, name: str, place: int) -> list[str]:
 
 def names_of_others(room: Room) -> Iterator[Outcome]:
     """A line is the same as for a file with a plain name, except for its last word."""
-    plain = [shlex.split(line) for line in lines_under(room, PLAIN, 0)]
+    plain = [shlex.split(line) for line in lines_under(room, "a.xml", 0)]
     yield Outcome("the lines", len(plain), 5)
     for place, name in enumerate(NAMES, 1):
         lines = lines_under(room, name, place)
@@ -86,9 +83,8 @@ def what_is_told_once(room: Room) -> Iterator[Outcome]:
     inbox.run()
     yield Outcome("waived", inbox.series.had[2], WAIVED)
     inbox.clock += 5 * DAY
-    yield Outcome(
-        "silence", (inbox.run(), inbox.shown()["silent"]), (["nothing came for 4 days but empty files"], True)
-    )
+    found = inbox.run(), inbox.shown()["silent"]
+    yield Outcome("silence", found, (["nothing came for 4 days but empty files"], True))
 
 
 def never_heard(room: Room) -> Iterator[Outcome]:
@@ -138,11 +134,7 @@ def refused_by_a_person(room: Room) -> Iterator[Outcome]:
     command = "onixdesk-inbox waive north 2"
     yield Outcome("it says what comes next", inbox.decide("refuse", "quarantined").count(command), 1)
     inbox.take("3.xml", feed_of(3, {"R1": "3.00"}))
-    yield Outcome("the next one waits, and is counted", (states(inbox), inbox.shown()["waiting"]), (["held"], 1))
+    yield Outcome("the next one waits, counted", (inbox.states()["3.xml"], inbox.shown()["waiting"]), ("held", 1))
     inbox.work(lambda each: decide.waive(each, numbers_word(command.split()[-1])))
     inbox.run()
-    yield Outcome("the number is waived", (states(inbox), inbox.series.next), (["applied"], 4))
-
-
-def states(inbox: FakeInbox) -> list[str]:
-    return [file.state for file in inbox.files() if file.name == "3.xml"]
+    yield Outcome("the number is waived", (inbox.states()["3.xml"], inbox.series.next), ("applied", 4))

@@ -7,6 +7,7 @@ from unittest.mock import patch
 
 from onixdesk_shop.inbox import comparing
 from onixdesk_shop.shop_json import Shop
+from tests.program.inbox.files import inbox_in
 from tests.program.room import Room
 from tests.running import Outcome
 from tests.shop.feeds import Book, feed
@@ -59,9 +60,7 @@ PASSES: dict[str, Feed] = {
 def behind_a_first_feed(
     room: Room, name: str, books: Feed, shop: Shop | None = SHOP, **settings: Any
 ) -> tuple[FakeInbox, str]:
-    folder = room.path(name.replace(" ", "-"))
-    folder.mkdir()
-    inbox = FakeInbox(folder, room.program, **settings)
+    inbox = inbox_in(room, name.replace(" ", "-"), program=room.program, **settings)
     inbox.shop = shop
     inbox.places.rules.write_text(RULES)
     inbox.take("first.xml", feed(1, BOOKS))
@@ -104,9 +103,8 @@ def few_among_many_new(room: Room) -> Iterator[Outcome]:
 
 
 def other_reasons(room: Room) -> Iterator[Outcome]:
-    yield Outcome(
-        "STOP=no", behind_a_first_feed(room, "no stop", QUARANTINED["a hundredfold"], stop=False)[1], "applied"
-    )
+    _, state = behind_a_first_feed(room, "no stop", QUARANTINED["a hundredfold"], stop=False)
+    yield Outcome("STOP=no", state, "applied")
     inbox = FakeInbox(room.folder, room.program)
     inbox.send("1.xml", feed(1, []))
     inbox.send("2.xml", feed(102, [], extra="<NoProduct/>"))
@@ -119,8 +117,7 @@ def other_reasons(room: Room) -> Iterator[Outcome]:
     yield Outcome("let in", inbox.states(), {"1.xml": "applied", "2.xml": "held", "3.xml": "quarantined"})
     why = next(file.why for file in inbox.files() if file.name == "3.xml")
     yield Outcome("far ahead", why, "its number is 101 ahead of the one that the series waits for")
-    room.path("wrong").mkdir()
-    inbox = FakeInbox(room.path("wrong"), room.program, words=("--wrong", "all"))
+    inbox = inbox_in(room, "wrong", program=room.program, words=("--wrong", "all"))
     books = [*all_with(country="XX")[:11], *all_with(price="12,99")[11:22], *BOOKS[22:]]
     regions = "CountriesIncluded>XX</CountriesIncluded", "RegionsIncluded>ECZ</RegionsIncluded"
     inbox.take("1.xml", feed(1, books).replace(*regions))

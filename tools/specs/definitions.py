@@ -83,17 +83,17 @@ def read_file(crate: str, name: str, text: str) -> File:
         if said := COMMENT.match(line):
             comment.append(said[1])
             continue
-        found = DEFINITION.match(line)
-        if found:
+        if line.startswith("module "):
+            word = None
+        if found := DEFINITION.match(line):
             file.comments[found[1]] = " ".join(comment)
         if found := found or LEMMA.match(line):
             word = found[1]
             file.formulas[word] = []
             file.cited[word] = set()
             file.own[word] = set()
-        if word and line and not line.startswith(("use ", "module ")):
+        if word and line and not line.startswith("use "):
             file.formulas[word].append(line)
-        if word and not line.startswith("use "):
             file.cited[word] |= names_in(line, imports)
             file.own[word] |= set(re.split(r"[\s(){}\[\],;.]+", line))
         comment = []

@@ -16,8 +16,8 @@ INTRODUCTION = """\
 
 First the desk, in the order in which it is read: all that the answer to a request rests on, each definition in \
 plain English and, below that, as it is written in `specs/`; then what price, calendar and choice mean, what a \
-crash leaves, and how a batch over a file ends. Behind these stands an index of all others that have a comment, \
-crate by crate. `make definitions` makes this page.
+crash leaves, how a batch over a file ends, and what files mean. Behind these stands an index of all others that \
+have a comment, crate by crate. `make definitions` makes this page.
 
 A text is the list of its bytes, a record the list of its fields. A list of requests has its latest \
 first: `r ∷ L` is L and then r. What gives a value or none says both what is read and what is refused.

@@ -4,10 +4,17 @@ use std::io::Read;
 
 /// Desks that are open, by the names of their sockets.
 pub trait OpenDesks {
+    ghost use Rattle.std.specs.Prelude.{List, ℕ};
+
+    // The desk of that name was sent that text, or after a fault perhaps a first part of it: the
+    // desks as they were, and as they are.
+    ghost sends: { List ℕ → List ℕ → Self → Self → Type 0 };
+
     /// Reads what a desk sends.
     type Reader: Read + Drop;
 
     /// Sends a text to the desk of that name, and that it is all. Gives what reads its answers, or
     /// why it cannot be sent.
-    fn send(&self, name: &str, text: &[u8]) -> Result<Self::Reader, &'static str>;
+    fn send(&mut self, name: &str, text: &[u8]) -> Result<Self::Reader, &'static str>
+        ensures { sends name.now text.now self.old self.new };
 }

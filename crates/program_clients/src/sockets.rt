@@ -1,5 +1,7 @@
 //! The sockets of the file system at which open desks take batches.
 
+ghost use Rattle.std.specs.Prelude.{◌≡◌};
+
 use crate::fault::{CausedFault, Fault};
 use crate::open_desks::OpenDesks;
 use csv_records::streams::{WriteFault, write_whole};
@@ -101,9 +103,12 @@ impl<'a> Sockets<'a> {
 }
 
 impl<'a> OpenDesks for Sockets<'a> {
+    // A socket tells nothing of what was sent.
+    ghost sends = { λ name text old new. new ≡ old };
+
     type Reader = UnixStream;
 
-    fn send(&self, name: &str, text: &[u8]) -> Result<UnixStream, &'static str> {
+    fn send(&mut self, name: &str, text: &[u8]) -> Result<UnixStream, &'static str> {
         let Ok(mut stream) = UnixStream::connect(self.rt, name) else {
             return Err(why_unanswered(self.rt, name));
         };

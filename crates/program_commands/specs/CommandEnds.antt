@@ -39,7 +39,7 @@ module _ (asked : List Step → Type 0) (written : List ℕ → Type 0) where
       (result : Result ℕ BatchFault) × Talks asked written rs (BatchGives result)
       × (status ≡ batch_status result)
 
-  -- `batch`: there is a text, that of the input, of which a batch ended so
+  -- `batch`: there is a text, the input's if its bytes are known, of which a batch ended so
   abbrev pub BatchEnds : Option (List ℕ) → ℕ → Type 0
   BatchEnds told status =
       (text : List ℕ) × (result : Result ℕ BatchFault) × IsTold told text

@@ -44,12 +44,14 @@ SendFits text written (Ok refused) =
     HasRecords text × TakesAnswers (length (requests_of text)) None written (Ok refused)
 SendFits text written (Err f) = WritesCame None written
 
--- how the command can end with this status: each request of the input has an answer in what came,
--- which was written, with 0, or 1 for a refusal; or a fault ended it, with 3. Told: what the input
--- tells of its bytes
-abbrev pub SendEnds : Option (List ℕ) → (List ℕ → Type 0) → ℕ → Type 0
-SendEnds told written status =
+-- how the command can end with this status: the text of the input was sent, and each request in it
+-- has an answer in what came, which was written, with 0, or 1 for a refusal; or a fault ended it,
+-- with 3, behind that or before anything was sent. Told: what the input tells of its bytes. Sent: the
+-- desk was sent that text, once. Unsent: nothing was sent
+abbrev pub SendEnds : Option (List ℕ) → (List ℕ → Type 0) → Type 0 → (List ℕ → Type 0) → ℕ
+    → Type 0
+SendEnds told sent unsent written status =
     (text : List ℕ) × IsTold told text
-    × (((refused : Bool) × SendFits {F = Fault} text written (Ok refused)
+    × (((refused : Bool) × SendFits {F = Fault} text written (Ok refused) × sent text
     × (status ≡ (if refused then 1 else 0)))
-    ⊎ ((status ≡ 3) × WritesCame None written))
+    ⊎ ((status ≡ 3) × WritesCame None written × (sent text ⊎ unsent)))

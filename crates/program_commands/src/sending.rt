@@ -1,7 +1,7 @@
 //! The command `batch` with `--batches`: the batch of standard input is sent to a desk that is
 //! open, and its answers come to standard output. Nothing of a desk is opened here.
 
-ghost use Rattle.std.specs.Prelude.{◌≡◌, ◌-◌, ◌∷◌, ◌||◌, ◌≤◌, [], if◌then◌else◌, IfOk, OnErr, length};
+ghost use Rattle.std.specs.Prelude.{◌≡◌, ◌-◌, ◌∷◌, ◌||◌, ◌⊎◌, ◌≤◌, [], if◌then◌else◌, IfErr, IfOk, OnErr, length};
 ghost use Rattle.std.specs.Io.KnownBytes.{Appends};
 ghost use Rattle.std.specs.List.{list_any};
 ghost use Rattle.csv.specs.Records.{fields_of};
@@ -179,13 +179,17 @@ fn unanswered_by(fault: Fault) -> CausedFault {
 // refusal. Then the lines of its malformed requests are added.
 fn send_batch<K: OpenDesks, W: Write>(
     alloc: Global,
-    desks: &K,
+    desks: &mut K,
     socket: &str,
     text: &[u8],
     output: &mut W,
     reasons: &mut Reasons<'_>,
 ) -> Result<bool, CausedFault>
-    ensures { SendFits text.now (Appends (W.contents output.old) (W.contents output.new)) result }
+    ensures fits { SendFits text.now
+        (Appends (W.contents output.old) (W.contents output.new)) result }
+    ensures sent { IfOk result (λ refused. K.sends socket.now text.now desks.old desks.new) }
+    ensures unsent { IfErr result (λ fault. K.sends socket.now text.now desks.old desks.new
+        ⊎ (desks.new ≡ desks.old)) }
 {
     let requests = match requests_in(alloc, text, reasons) {
         Ok(requests) => requests,
@@ -245,12 +249,13 @@ fn report_unsent<E: Write>(
 /// which is reported; a missing answer is a fault of the socket.
 pub fn send_input<K: OpenDesks, R: Read, W: Write, E: Write>(
     alloc: Global,
-    desks: &K,
+    desks: &mut K,
     socket: &str,
     streams: &mut Streams<R, W, E>,
 ) -> u8
     ensures status { result ≤ 3 }
     ensures end { SendEnds (R.remaining streams.old.input)
+        (λ text. K.sends socket.now text desks.old desks.new) (desks.new ≡ desks.old)
         (Appends (W.contents streams.old.output) (W.contents streams.new.output)) result }
 {
     let text = match read_text(alloc, &mut streams.input) {

@@ -14,10 +14,15 @@ use Rattle.series_rules.specs.Content.{SameContent}
 use Rattle.series_rules.specs.Steps.{Leads, Step, has_change, in_doubt, with_answered}
 use Rattle.series_rules.specs.declared.requests.Request.{Request}
 use Rattle.desk_rows.specs.Seen.{in_tables}
-use Rattle.desk_versions.specs.Openings.{AreEmptyFiles, AreFoundAs}
+use Rattle.desk_versions.specs.Migrations.{AreFilesOfEither, migration}
+use Rattle.desk_versions.specs.Openings.{AreEmptyFiles, AreFoundAs, opening}
 use Rattle.program_desks.specs.DeskFiles.{DeskFiles, LastsAlone}
 use Rattle.program_desks.specs.declared.kept_desks.Creation.{Creation}
-use Rattle.program_databases.specs.FileViews.{MayBeTaken}
+use Rattle.program_desks.specs.declared.kept_desks.Migration.{Migration}
+use Rattle.program_databases.specs.FileViews.{HoldMeta, MayBeTaken}
+use Rattle.program_databases.specs.Found.{store_creation}
+use Rattle.program_databases.specs.Migrated.{IsMigrationDone}
+use Rattle.program_databases.specs.Unopened.{LeavesFound}
 use Rattle.program_databases.specs.declared.unopened.Unopened.{Unopened}
 
 -- Held: what the files of a name hold, before they are opened
@@ -63,7 +68,23 @@ module _ {K O U D : Type 0} (g : Ghosts D) (held : K → List ℕ → Image)
         ⊎ (((r : Request) × Contains (in_doubt L steps) r × AreOf left (r ∷ with_answered L steps))
         ⊎ ((has_change L steps ≡ false) × AreOf left L))
 
-  -- the files of a name are opened only if they may be taken for a desk
-  abbrev pub AreTakenRightly : Type 0
-  AreTakenRightly = (desks : K) (name : List ℕ) (creation : Creation)
-      → (files.found desks name creation).sound ↔ MayBeTaken (held desks name) creation
+  -- What is said of the files of a name is said of what these hold, whether a desk is opened in them
+  -- or not.
+  pub record AreTakenRightly : Type 0 where
+    -- they are opened only if they may be taken for a desk
+    pub opened : (desks : K) (name : List ℕ) (creation : Creation)
+        → (files.found desks name creation).sound ↔ MayBeTaken (held desks name) creation
+    pub holds : (desks : K) (name : List ℕ) (creation : Creation) (d : Trees)
+        → (files.found desks name creation).holds d ↔ HoldMeta (held desks name) d
+    -- where no desk is opened, and where none is brought to version 2, that is left of them
+    pub spared : (desks : K) (name : List ℕ) (creation : Creation) (left : Unopened O U D g)
+        → files.spared desks name creation left
+        ↔ LeavesFound opening (store_creation creation) (held desks name) left
+    pub unmigrated : (desks : K) (name : List ℕ) (creation : Creation) (left : Unopened O U D g)
+        → files.unmigrated desks name creation left
+        ↔ LeavesFound migration (store_creation creation) (held desks name) left
+    pub of_any_version : (desks : K) (name : List ℕ) (L : List Request)
+        → files.of_any_version desks name L ↔ AreFilesOfEither (held desks name) L
+    pub migrated : (desks : K) (name : List ℕ) (creation : Creation) (did : Migration)
+        (now : Files D) → files.migrated desks name creation did now
+        ↔ IsMigrationDone g (store_creation creation) (held desks name) did now

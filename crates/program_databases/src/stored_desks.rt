@@ -112,7 +112,8 @@ impl<O: Databases> KeepsDesks<DeskStore<FileStore<O::File>>> for StoredDesks<O> 
 /// list, a run hands on the list with what it answered, and lists of which the same files are come to
 /// the same. What a crash leaves is of the list with what was answered: of closed files, and of the
 /// database without its log, of that alone; of files that could not be closed perhaps with one
-/// request more. It is the relation by the rows of the tables, but nothing rests on that.
+/// request more. It is the relation by the rows of the tables, but nothing rests on that. What is
+/// said of files in which no desk is opened, or which are migrated, is said of what they hold.
 pub fn files_mean_lists<O: Databases>()
     ensures lists { MeanLists O.File.Disk (λ desks. O.held desks.databases)
         ⟦<StoredDesks<O> as KeepsDesks<DeskStore<FileStore<O::File>>>>⟧.files AreFilesOf }

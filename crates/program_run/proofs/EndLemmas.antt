@@ -85,25 +85,25 @@ requests_as : (asked asks : List Step → Type 0) (written : List ℕ → Type 0
 requests_as asked asks written f rs status (result, talks, is) = (result, talks_as asked asks written written rs _ _ f (λ t was. was) (λ steps stop given. given) talks, is)
 
 -- a command that asked so asked as well so
-pub task_as : (asked asks : List Step → Type 0) (written : List ℕ → Type 0) → ((steps : List Step) → asked steps → asks steps) → (task : Task) (holds : Holdings) (told : Option (List ℕ)) (status : ℕ)
-    → TaskEnds asked written task holds told status → TaskEnds asks written task holds told status
-task_as asked asks written f task.Batch holds told status (text, result, is, ran, same) =
-    (text, result, is, batch_as asked asks written written f (λ t was. was) text result ran, same)
-task_as asked asks written f (task.Deliver names) holds told status ended =
+pub task_as : (asked asks : List Step → Type 0) (written : List ℕ → Type 0) → ((steps : List Step) → asked steps → asks steps) → (task : Task) (holds : Holdings) (told left : Option (List ℕ)) (status : ℕ)
+    → TaskEnds asked written task holds told left status → TaskEnds asks written task holds told left status
+task_as asked asks written f task.Batch holds told left status ((text, result, is, ran, same), taken) =
+    ((text, result, is, batch_as asked asks written written f (λ t was. was) text result ran, same), taken)
+task_as asked asks written f (task.Deliver names) holds told left status ended =
     (ended.0, ended.1, ended.2, ended.3, requests_as asked asks written f _ _ ended.4, ended.5)
-task_as asked asks written f (task.Gaps name) holds told status ended = by (series_name_of name.now) ended
+task_as asked asks written f (task.Gaps name) holds told left status ended = by (series_name_of name.now) ended
   where
     by : (o : Option (List ℕ)) → GapsEnds asked written o status → GapsEnds asks written o status
     by (Some series) end = requests_as asked asks written f _ _ end
     by None end = (f [] end.0, end.1)
-task_as asked asks written f (task.Serve port requests batches) holds told status ended =
+task_as asked asks written f (task.Serve port requests batches) holds told left status ended =
     (ended.0, (ended.1.0, ended.1.1, f _ ended.1.2), ended.2)
 
 -- a command that ended over a desk ended so over its files
-pub task_between : {k : DeskKind} (rules : List Rule) (written : List ℕ → Type 0) (task : Task) (holds : Holdings) (told : Option (List ℕ)) (old first last new : View k) (own : ℕ) → OpensAs old first → LeavesAs last new
-    → TaskLeads rules written task holds told first last own → TaskLeads rules written task holds told old new own
-task_between rules written task holds told old first last new own opens leaves ended =
-    task_as (λ steps. Leads rules steps first last) (λ steps. Leads rules steps old new) written (λ steps leads. leads_between rules steps old first last new opens leaves leads) task holds told own ended
+pub task_between : {k : DeskKind} (rules : List Rule) (written : List ℕ → Type 0) (task : Task) (holds : Holdings) (told left : Option (List ℕ)) (old first last new : View k) (own : ℕ) → OpensAs old first → LeavesAs last new
+    → TaskLeads rules written task holds told left first last own → TaskLeads rules written task holds told left old new own
+task_between rules written task holds told left old first last new own opens leaves ended =
+    task_as (λ steps. Leads rules steps first last) (λ steps. Leads rules steps old new) written (λ steps leads. leads_between rules steps old first last new opens leaves leads) task holds told left own ended
 
 -- what ended over a desk that was opened, and whose files were then closed, ended so over the files
 pub over_files : {K : Type 0} {k : DeskKind} {C U N : Type 0} (files : DeskFiles K k C U N) (databases : K) (name : List ℕ) (creation : Creation) (written : List ℕ → Type 0) (ends : View k → View k → ℕ → Type 0)

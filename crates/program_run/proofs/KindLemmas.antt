@@ -10,10 +10,13 @@ use Rattle.program_desks.specs.DeskFiles.{DeskFiles}
 use Rattle.program_desks.specs.declared.files_left.FilesLeft.{FilesLeft}
 use Rattle.program_desks.specs.declared.files_left.FilesLeft.TheVariants.{Closed, Unclosed, Unopened, Untouched}
 use Rattle.program_desks.specs.declared.kept_desks.Creation.{Creation}
+use Rattle.program_words.specs.Asked.{Reads, ReadsOther}
 use Rattle.program_words.specs.declared.invocation.Action.{Action}
 use Rattle.program_words.specs.declared.invocation.Action.TheVariants.{InMemory, InFile}
+use Rattle.program_words.specs.declared.invocation.Reading.{Reading}
 use Rattle.program_words.specs.declared.invocation.Task.{Task}
 use Rattle.program_words.specs.declared.invocation.Task.TheVariants as task
+use Rattle.program_run.proofs.WordLemmas.{reads_other}
 use Rattle.program_run.specs.Kinds.{ActionEnds, AsksGaps, BatchRun, Batches, CheckRun, Checks, ConvertRun, Converts, DeliverRun, Delivers, GapsRun, ListRun, Lists, MigrateRun, Migrates, RunEnds, RunsTask, SendRun, Sends, ServeRun, Serves, Written}
 use Rattle.program_run.specs.OverFiles.{EndsOverFiles, creation_by}
 use Rattle.program_run.specs.TaskEnds.{TaskEnds}
@@ -28,27 +31,29 @@ over_as files databases name creation written first then f status (Unopened left
 over_as files databases name creation written first then f status (Untouched left) ended = absurd ended
 
 module _ {M : Type 0} {m : DeskKind} (seen : M → View m) {K : Type 0} {k : DeskKind} {C U N : Type 0} (files : DeskFiles K k C U N) {O P F R W E : Type 0} (holds : F → Holdings)
-    (lacks_folder : F → List ℕ → Type 0) (contents : W → Option (List ℕ)) (remaining : R → Option (List ℕ)) (databases : K) (old new : Machine O P F R W E) (result : ℕ × FilesLeft K N U C) where
+    (lacks_folder : F → List ℕ → Type 0) (contents : W → Option (List ℕ)) (remaining : R → Option (List ℕ)) (databases : K) (old new : Machine O P F R W E) (result : ℕ × FilesLeft K N U C)
+    (sends : List ℕ → List ℕ → O → O → Type 0) where
   abbrev Ended : List Rule → Action → Type 0
-  Ended = ActionEnds seen files holds lacks_folder contents remaining databases old new result
+  Ended = ActionEnds seen files holds lacks_folder contents remaining databases old new result sends
 
   abbrev Tasks : Task → (List Step → Type 0) → ℕ → Type 0
-  Tasks task asked own = TaskEnds asked (Written seen files holds lacks_folder contents remaining databases old new result) task (holds old.files) (remaining old.streams.input) own
+  Tasks task asked own = TaskEnds asked (Written seen files holds lacks_folder contents remaining databases old new result) task (holds old.files) (remaining old.streams.input) (remaining new.streams.input) own
 
   task_as : (ends : Task → (List Step → Type 0) → ℕ → Type 0) → ((task : Task) (asked : List Step → Type 0) (own : ℕ) → Tasks task asked own → ends task asked own)
       → (rules : List Rule) (action : Action) → RunsTask seen files holds lacks_folder contents remaining databases old new result Tasks rules action → RunsTask seen files holds lacks_folder contents remaining databases old new result ends rules action
   task_as ends f rules (InMemory task) (untouched, first, last, is_new, sound, ended) = (untouched, first, last, is_new, sound, f task (λ steps. Leads rules steps (seen first) (seen last)) result.0 ended)
-  task_as ends f rules (InFile db task) (stay, ended) = (
+  task_as ends f rules (InFile db task) (stay, unsent, ended) = (
     stay,
+    unsent,
     over_as files databases db.name.now (creation_by db.is_existing) (Written seen files holds lacks_folder contents remaining databases old new result) (λ first last. Tasks task (λ steps. Leads rules steps first last))
         (λ first last. ends task (λ steps. Leads rules steps first last)) (λ first last own is. f task (λ steps. Leads rules steps first last) own is) result.0 result.1 ended,
   )
   task_as ends f rules other ended = tt
 
-  run_as : (words : List (Bor (List ℕ))) (ends : List Rule → Action → Type 0) → ((rules : List Rule) (action : Action) → Ended rules action → ends rules action) → RunEnds seen files holds lacks_folder contents remaining databases old new result words Ended → RunEnds seen files holds lacks_folder contents remaining databases old new result words ends
-  run_as words ends f (inl (invocation, reads, inl (rules, read, ended))) = inl (invocation, reads, inl (rules, read, f rules invocation.action ended))
-  run_as words ends f (inl (invocation, reads, inr unruled)) = inl (invocation, reads, inr unruled)
-  run_as words ends f (inr unread) = inr unread
+  run_as : (reads then : List (List ℕ) → Reading → Type 0) → ((words : List (List ℕ)) (read : Reading) → reads words read → then words read) → (words : List (Bor (List ℕ))) (ends : List Rule → Action → Type 0) → ((rules : List Rule) (action : Action) → Ended rules action → ends rules action) → RunEnds seen files holds lacks_folder contents remaining databases old new result reads words Ended → RunEnds seen files holds lacks_folder contents remaining databases old new result then words ends
+  run_as reads then by words ends f (inl (invocation, is, inl (rules, read, ended))) = inl (invocation, by _ _ is, inl (rules, read, f rules invocation.action ended))
+  run_as reads then by words ends f (inl (invocation, is, inr unruled)) = inl (invocation, by _ _ is, inr unruled)
+  run_as reads then by words ends f (inr ((read, is, ended), untouched)) = inr ((read, by _ read is, ended), untouched)
 
   is_batch : (task : Task) (asked : List Step → Type 0) (own : ℕ) → Tasks task asked own → Batches seen files holds lacks_folder contents remaining databases old new result task asked own
   is_batch task.Batch asked own ended = ended
@@ -74,19 +79,19 @@ module _ {M : Type 0} {m : DeskKind} (seen : M → View m) {K : Type 0} {k : Des
     pub serve : ServeRun seen files holds lacks_folder contents remaining databases old new result words
     pub list : ListRun seen files holds lacks_folder contents remaining databases old new result words
     pub migrate : MigrateRun seen files holds lacks_folder contents remaining databases old new result words
-    pub send : SendRun seen files holds lacks_folder contents remaining databases old new result words
+    pub send : SendRun seen files holds lacks_folder contents remaining databases old new result sends words
     pub convert : ConvertRun seen files holds lacks_folder contents remaining databases old new result words
     pub check : CheckRun seen files holds lacks_folder contents remaining databases old new result words
 
-  pub kinds : (words : List (Bor (List ℕ))) → RunEnds seen files holds lacks_folder contents remaining databases old new result words Ended → Kinds words
+  pub kinds : (words : List (Bor (List ℕ))) → RunEnds seen files holds lacks_folder contents remaining databases old new result Reads words Ended → Kinds words
   kinds words ended = record {
-    batch = run_as words (RunsTask seen files holds lacks_folder contents remaining databases old new result (Batches seen files holds lacks_folder contents remaining databases old new result)) (λ rules action is. task_as (Batches seen files holds lacks_folder contents remaining databases old new result) is_batch rules action is.0) ended;
-    deliver = run_as words (RunsTask seen files holds lacks_folder contents remaining databases old new result (Delivers seen files holds lacks_folder contents remaining databases old new result)) (λ rules action is. task_as (Delivers seen files holds lacks_folder contents remaining databases old new result) is_deliver rules action is.0) ended;
-    gaps = run_as words (RunsTask seen files holds lacks_folder contents remaining databases old new result (AsksGaps seen files holds lacks_folder contents remaining databases old new result)) (λ rules action is. task_as (AsksGaps seen files holds lacks_folder contents remaining databases old new result) is_gaps rules action is.0) ended;
-    serve = run_as words (RunsTask seen files holds lacks_folder contents remaining databases old new result (Serves seen files holds lacks_folder contents remaining databases old new result)) (λ rules action is. task_as (Serves seen files holds lacks_folder contents remaining databases old new result) is_serve rules action is.0) ended;
-    list = run_as words (Lists seen files holds lacks_folder contents remaining databases old new result) (λ rules action is. is.1) ended;
-    migrate = run_as words (Migrates seen files holds lacks_folder contents remaining databases old new result) (λ rules action is. is.2) ended;
-    send = run_as words (Sends seen files holds lacks_folder contents remaining databases old new result) (λ rules action is. is.3) ended;
-    convert = run_as words (Converts seen files holds lacks_folder contents remaining databases old new result) (λ rules action is. is.4) ended;
-    check = run_as words (Checks seen files holds lacks_folder contents remaining databases old new result) (λ rules action is. is.5) ended;
+    batch = run_as Reads ReadsOther reads_other words (RunsTask seen files holds lacks_folder contents remaining databases old new result (Batches seen files holds lacks_folder contents remaining databases old new result)) (λ rules action is. task_as (Batches seen files holds lacks_folder contents remaining databases old new result) is_batch rules action is.0) ended;
+    deliver = run_as Reads ReadsOther reads_other words (RunsTask seen files holds lacks_folder contents remaining databases old new result (Delivers seen files holds lacks_folder contents remaining databases old new result)) (λ rules action is. task_as (Delivers seen files holds lacks_folder contents remaining databases old new result) is_deliver rules action is.0) ended;
+    gaps = run_as Reads ReadsOther reads_other words (RunsTask seen files holds lacks_folder contents remaining databases old new result (AsksGaps seen files holds lacks_folder contents remaining databases old new result)) (λ rules action is. task_as (AsksGaps seen files holds lacks_folder contents remaining databases old new result) is_gaps rules action is.0) ended;
+    serve = run_as Reads ReadsOther reads_other words (RunsTask seen files holds lacks_folder contents remaining databases old new result (Serves seen files holds lacks_folder contents remaining databases old new result)) (λ rules action is. task_as (Serves seen files holds lacks_folder contents remaining databases old new result) is_serve rules action is.0) ended;
+    list = run_as Reads ReadsOther reads_other words (Lists seen files holds lacks_folder contents remaining databases old new result) (λ rules action is. is.1) ended;
+    migrate = run_as Reads ReadsOther reads_other words (Migrates seen files holds lacks_folder contents remaining databases old new result) (λ rules action is. is.2) ended;
+    send = run_as Reads ReadsOther reads_other words (Sends seen files holds lacks_folder contents remaining databases old new result sends) (λ rules action is. is.3) ended;
+    convert = run_as Reads Reads (λ words read is. is) words (Converts seen files holds lacks_folder contents remaining databases old new result) (λ rules action is. is.4) ended;
+    check = run_as Reads ReadsOther reads_other words (Checks seen files holds lacks_folder contents remaining databases old new result) (λ rules action is. is.5) ended;
   }

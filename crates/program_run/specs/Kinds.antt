@@ -1,8 +1,10 @@
 -- How each kind of command ends, by the words of the command line. What is said of a kind cites no
 -- other one: of other commands it says nothing.
-use Rattle.std.specs.Prelude.{◌≡◌, ◌⊎◌, ℕ, List, [], Option, Ok, Err, is_some, map, ⊤}
+use Rattle.std.specs.Prelude.{◌≡◌, ◌⊎◌, ◌+◌, ℕ, List, [], Option, Ok, Err, is_some, map, ⊤}
 use Rattle.std.specs.Borrow.{Bor}
 use Rattle.std.specs.Io.KnownBytes.{Appends}
+use Rattle.csv_records.specs.RecordTexts.{limit}
+use Rattle.csv_records.specs.Streams.{TakesAtMost}
 use Rattle.onix_terms.specs.SeriesName.{series_name_of}
 use Rattle.price_rules.specs.declared.precedence.Rule.{Rule}
 use Rattle.series_rules.specs.Steps.{Leads, Step}
@@ -11,11 +13,12 @@ use Rattle.program_files.specs.Holdings.{Holdings}
 use Rattle.program_desks.specs.DeskFiles.{DeskFiles}
 use Rattle.program_desks.specs.declared.files_left.FilesLeft.{FilesLeft}
 use Rattle.program_desks.specs.declared.kept_desks.Creation.TheVariants.{Never}
-use Rattle.program_words.specs.Asked.{Reads}
+use Rattle.program_words.specs.Asked.{Reads, ReadsOther}
 use Rattle.program_words.specs.ConvertWords.{asked_view}
 use Rattle.program_words.specs.declared.invocation.Action.{Action}
 use Rattle.program_words.specs.declared.invocation.Action.TheVariants.{CheckRules, CheckTerms, CheckTexts, Convert, InMemory, InFile, Listed, Migrate, Send}
 use Rattle.program_words.specs.declared.invocation.Invocation.{Invocation}
+use Rattle.program_words.specs.declared.invocation.Reading.{Reading}
 use Rattle.program_words.specs.declared.invocation.Reading.TheVariants as reading
 use Rattle.program_words.specs.declared.invocation.Task.{Task}
 use Rattle.program_words.specs.declared.invocation.Task.TheVariants as task
@@ -48,9 +51,13 @@ module _ {M : Type 0} {m : DeskKind} (seen : M → View m) {K : Type 0} {k : Des
   abbrev pub NamesStay : Type 0
   NamesStay = holds new.files ≡ holds old.files
 
-  -- neither files of a desk nor what names hold was touched
-  abbrev pub NoFileIsTouched : Type 0
-  NoFileIsTouched = NamesStay × IsUntouched result.1
+  -- nothing was sent to an open desk
+  abbrev pub NothingIsSent : Type 0
+  NothingIsSent = new.desks ≡ old.desks
+
+  -- neither files of a desk nor what names hold was touched, and nothing was sent to an open desk
+  abbrev pub NothingIsTouched : Type 0
+  NothingIsTouched = NamesStay × NothingIsSent × IsUntouched result.1
 
   -- how the program can end by what a command line asks for: by its action, under rules that are
   -- read; or, where these cannot be read, with nothing done. Ended: how an action ended under rules
@@ -59,15 +66,16 @@ module _ {M : Type 0} {m : DeskKind} (seen : M → View m) {K : Type 0} {k : Des
       ((rules : List Rule) × ReadsRules (holds old.files) invocation.rules (Ok rules)
       × ended rules invocation.action)
       ⊎ ((fault : RulesFault) × ReadsRules (holds old.files) invocation.rules (Err fault)
-      × (result.0 ≡ status_of fault) × Written [] × NoFileIsTouched)
+      × (result.0 ≡ status_of fault) × Written [] × NothingIsTouched)
 
   -- how it can end on these words, of which the first is its name: by what they ask for; or with
-  -- nothing done, where they are read as no command line
-  abbrev pub RunEnds : List (Bor (List ℕ)) → (List Rule → Action → Type 0) → Type 0
-  RunEnds words ended =
-      ((invocation : Invocation) × Reads (map (λ word. word.now) words) (reading.Run invocation)
+  -- nothing done, where they are read as no command line. Reads: how words read
+  abbrev pub RunEnds : (List (List ℕ) → Reading → Type 0) → List (Bor (List ℕ))
+      → (List Rule → Action → Type 0) → Type 0
+  RunEnds reads words ended =
+      ((invocation : Invocation) × reads (map (λ word. word.now) words) (reading.Run invocation)
       × InvocationEnds invocation ended)
-      ⊎ (IsNoCommand Written (map (λ word. word.now) words) result.0 × NoFileIsTouched)
+      ⊎ (IsNoCommand reads Written (map (λ word. word.now) words) result.0 × NothingIsTouched)
 
   -- ---- actions
 
@@ -76,11 +84,11 @@ module _ {M : Type 0} {m : DeskKind} (seen : M → View m) {K : Type 0} {k : Des
   -- ended
   abbrev pub RunsTask : (Task → (List Step → Type 0) → ℕ → Type 0) → List Rule → Action → Type 0
   RunsTask ends rules (InMemory task) =
-      NoFileIsTouched
+      NothingIsTouched
       × (first last : M) × (seen first).stands_for [] × (seen last).sound
       × ends task (λ steps. Leads rules steps (seen first) (seen last)) result.0
   RunsTask ends rules (InFile db task) =
-      NamesStay
+      NamesStay × NothingIsSent
       × EndsOverFiles files databases db.name.now (creation_by db.is_existing) Written
       (λ first last. ends task (λ steps. Leads rules steps first last)) result.0 result.1
   RunsTask ends rules _ = ⊤
@@ -88,28 +96,30 @@ module _ {M : Type 0} {m : DeskKind} (seen : M → View m) {K : Type 0} {k : Des
   -- `agreements`, `export` and `gaps` of all series
   abbrev pub Lists : List Rule → Action → Type 0
   Lists rules (Listed db listing) =
-      NamesStay
+      NamesStay × NothingIsSent
       × EndsOverFiles files databases db.name.now Never Written (ListingEnds Written listing)
       result.0 result.1
   Lists rules _ = ⊤
 
   abbrev pub Migrates : List Rule → Action → Type 0
   Migrates rules (Migrate db) =
-      NamesStay
+      NamesStay × NothingIsSent
       × MigrateEnds files databases db.name.now (creation_by db.is_existing) Written result.0
       result.1
   Migrates rules _ = ⊤
 
-  -- `batch` to an open desk
-  abbrev pub Sends : List Rule → Action → Type 0
-  Sends rules (Send socket) =
-      NoFileIsTouched × SendEnds (remaining old.streams.input) Written result.0
-  Sends rules _ = ⊤
+  -- `batch` to an open desk. Sends: the desk of that name was sent that text
+  abbrev pub Sends : (List ℕ → List ℕ → O → O → Type 0) → List Rule → Action → Type 0
+  Sends sends rules (Send socket) =
+      NamesStay × IsUntouched result.1
+      × SendEnds (remaining old.streams.input)
+      (λ text. sends socket.now text old.desks new.desks) NothingIsSent Written result.0
+  Sends sends rules _ = ⊤
 
   -- `convert`, which alone changes what names hold
   abbrev pub Converts : List Rule → Action → Type 0
   Converts rules (Convert c) =
-      IsUntouched result.1
+      IsUntouched result.1 × NothingIsSent
       × ConvertEnds (holds old.files) (holds new.files) (lacks_folder old.files)
       (remaining old.streams.input) Written (asked_view c) result.0
   Converts rules _ = ⊤
@@ -117,16 +127,17 @@ module _ {M : Type 0} {m : DeskKind} (seen : M → View m) {K : Type 0} {k : Des
   -- `rules`, `terms` and `check`
   abbrev pub Checks : List Rule → Action → Type 0
   Checks rules (CheckRules file) =
-      NoFileIsTouched × CheckEnds Written (holds old.files file.now) result.0
+      NothingIsTouched × CheckEnds Written (holds old.files file.now) result.0
   Checks rules (CheckTerms file) =
-      NoFileIsTouched × CheckTermsEnds Written (holds old.files file.now) result.0
-  Checks rules (CheckTexts files) = NoFileIsTouched × Written []
+      NothingIsTouched × CheckTermsEnds Written (holds old.files file.now) result.0
+  Checks rules (CheckTexts files) = NothingIsTouched × Written []
   Checks rules _ = ⊤
 
   -- the task is `batch`, and ended so; of other tasks nothing is said
   abbrev pub Batches : Task → (List Step → Type 0) → ℕ → Type 0
   Batches task.Batch asked status =
       BatchEnds asked Written (remaining old.streams.input) status
+      × TakesAtMost (limit + 1) (remaining old.streams.input) (remaining new.streams.input)
   Batches _ asked status = ⊤
 
   abbrev pub Delivers : Task → (List Step → Type 0) → ℕ → Type 0
@@ -147,38 +158,38 @@ module _ {M : Type 0} {m : DeskKind} (seen : M → View m) {K : Type 0} {k : Des
 
   -- how the program can end on these words, which say so of `batch` alone
   abbrev pub BatchRun : List (Bor (List ℕ)) → Type 0
-  BatchRun words = RunEnds words (RunsTask Batches)
+  BatchRun words = RunEnds ReadsOther words (RunsTask Batches)
 
   abbrev pub DeliverRun : List (Bor (List ℕ)) → Type 0
-  DeliverRun words = RunEnds words (RunsTask Delivers)
+  DeliverRun words = RunEnds ReadsOther words (RunsTask Delivers)
 
   abbrev pub GapsRun : List (Bor (List ℕ)) → Type 0
-  GapsRun words = RunEnds words (RunsTask AsksGaps)
+  GapsRun words = RunEnds ReadsOther words (RunsTask AsksGaps)
 
   abbrev pub ServeRun : List (Bor (List ℕ)) → Type 0
-  ServeRun words = RunEnds words (RunsTask Serves)
+  ServeRun words = RunEnds ReadsOther words (RunsTask Serves)
 
   abbrev pub ListRun : List (Bor (List ℕ)) → Type 0
-  ListRun words = RunEnds words Lists
+  ListRun words = RunEnds ReadsOther words Lists
 
   abbrev pub MigrateRun : List (Bor (List ℕ)) → Type 0
-  MigrateRun words = RunEnds words Migrates
+  MigrateRun words = RunEnds ReadsOther words Migrates
 
-  abbrev pub SendRun : List (Bor (List ℕ)) → Type 0
-  SendRun words = RunEnds words Sends
+  abbrev pub SendRun : (List ℕ → List ℕ → O → O → Type 0) → List (Bor (List ℕ)) → Type 0
+  SendRun sends words = RunEnds ReadsOther words (Sends sends)
 
   abbrev pub ConvertRun : List (Bor (List ℕ)) → Type 0
-  ConvertRun words = RunEnds words Converts
+  ConvertRun words = RunEnds Reads words Converts
 
   abbrev pub CheckRun : List (Bor (List ℕ)) → Type 0
-  CheckRun words = RunEnds words Checks
+  CheckRun words = RunEnds ReadsOther words Checks
 
   -- ---- within the program
 
   -- an action ended as one of its kind, whichever that is
-  abbrev pub ActionEnds : List Rule → Action → Type 0
-  ActionEnds rules action =
+  abbrev pub ActionEnds : (List ℕ → List ℕ → O → O → Type 0) → List Rule → Action → Type 0
+  ActionEnds sends rules action =
       RunsTask (λ task asked own. TaskEnds asked Written task (holds old.files)
-      (remaining old.streams.input) own) rules action
-      × Lists rules action × Migrates rules action × Sends rules action × Converts rules action
-      × Checks rules action
+      (remaining old.streams.input) (remaining new.streams.input) own) rules action
+      × Lists rules action × Migrates rules action × Sends sends rules action
+      × Converts rules action × Checks rules action

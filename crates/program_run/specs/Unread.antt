@@ -6,7 +6,6 @@ use Rattle.program_files.specs.Holdings.{Holdings}
 use Rattle.program_clients.specs.Printing.{PrintEnds}
 use Rattle.program_rules.specs.RulesFile.{ReadsTable}
 use Rattle.program_rules.specs.declared.rules.RulesFault.{RulesFault}
-use Rattle.program_words.specs.Asked.{Reads}
 use Rattle.program_words.specs.declared.invocation.Reading.{Reading}
 use Rattle.program_words.specs.declared.invocation.Reading.TheVariants as reading
 
@@ -25,7 +24,8 @@ UnreadEnds written (reading.Help text) status = PrintEnds 0 written (string_byte
 UnreadEnds written reading.Memory status = (status ≡ 3) × written []
 UnreadEnds written _ status = (status ≡ 2) × written []
 
--- these words are no command line, and end so
-abbrev pub IsNoCommand : (List ℕ → Type 0) → List (List ℕ) → ℕ → Type 0
-IsNoCommand written words status =
-    (read : Reading) × Reads words read × UnreadEnds written read status
+-- these words are no command line, and end so. Reads: how words read
+abbrev pub IsNoCommand : (List (List ℕ) → Reading → Type 0) → (List ℕ → Type 0) → List (List ℕ)
+    → ℕ → Type 0
+IsNoCommand reads written words status =
+    (read : Reading) × reads words read × UnreadEnds written read status

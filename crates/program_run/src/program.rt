@@ -59,7 +59,7 @@ fn run_in_memory<T: Clock, F: NamedFiles, N: Entrances, R: Read, W: Write, E: Wr
     ensures status { result ≤ 3 }
     ensures end { NewDeskEnds precedence.now
         (Appends (W.contents streams.old.output) (W.contents streams.new.output)) task.now
-        (F.holds files.now) (R.remaining streams.old.input)
+        (F.holds files.now) (R.remaining streams.old.input) (R.remaining streams.new.input)
         ⟦<MemoryDesk as Desk>⟧.seen result }
 {
     let mut desk = MemoryDesk::new(alloc);
@@ -94,6 +94,7 @@ fn run_in_file<
 ) -> (u8, FilesLeft<K, K::Unopened, K::Unclosed, K::Closed>)
     ensures status { result.0 ≤ 3 }
     ensures files { machine.new.files ≡ machine.old.files }
+    ensures desks { machine.new.desks ≡ machine.old.desks }
     // The command ends as over any desk, whose files are then closed; the status is 3 where they
     // could not be.
     ensures end { EndsOverFiles K.files databases db.now.name.now
@@ -101,7 +102,8 @@ fn run_in_file<
         (Appends (W.contents machine.old.streams.output) (W.contents machine.new.streams.output))
         (TaskLeads precedence.now
         (Appends (W.contents machine.old.streams.output) (W.contents machine.new.streams.output))
-        task.now (F.holds machine.old.files) (R.remaining machine.old.streams.input))
+        task.now (F.holds machine.old.files) (R.remaining machine.old.streams.input)
+        (R.remaining machine.new.streams.input))
         result.0 result.1 }
 {
     let Machine {
@@ -146,8 +148,8 @@ fn run_action<
 ) -> (u8, FilesLeft<K, K::Unopened, K::Unclosed, K::Closed>)
     ensures status { result.0 ≤ 3 }
     ensures end { ActionEnds ⟦<MemoryDesk as Desk>⟧.seen K.files F.holds F.lacks_folder
-        W.contents R.remaining databases machine.old machine.new result precedence.now
-        action.now }
+        W.contents R.remaining databases machine.old machine.new result O.sends
+        precedence.now action.now }
 {
     let Machine {
         desks,
@@ -210,7 +212,7 @@ fn read_words<'a, R, W: Write, E: Write>(
 ) -> Result<Invocation<'a>, u8>
     ensures ok { IfOk result (λ invocation. (streams.new ≡ streams.old)
         × Reads (map (λ word. word.now) words.entry.now) (Reading.Run invocation)) }
-    ensures err { IfErr result (λ status. IsNoCommand
+    ensures err { IfErr result (λ status. IsNoCommand Reads
         (Appends (W.contents streams.old.output) (W.contents streams.new.output))
         (map (λ word. word.now) words.entry.now) status) }
     ensures most { IfErr result (λ status. status ≤ 3) }
@@ -259,9 +261,9 @@ fn run_words<
 ) -> (u8, FilesLeft<K, K::Unopened, K::Unclosed, K::Closed>)
     ensures status { result.0 ≤ 3 }
     ensures end { RunEnds ⟦<MemoryDesk as Desk>⟧.seen K.files F.holds F.lacks_folder
-        W.contents R.remaining databases machine.old machine.new result words.now
+        W.contents R.remaining databases machine.old machine.new result Reads words.now
         (ActionEnds ⟦<MemoryDesk as Desk>⟧.seen K.files F.holds F.lacks_folder
-        W.contents R.remaining databases machine.old machine.new result) }
+        W.contents R.remaining databases machine.old machine.new result O.sends) }
 {
     let invocation = match read_words(alloc, words, &mut machine.streams) {
         Ok(invocation) => invocation,
@@ -326,7 +328,7 @@ pub fn run<
     ensures migrate { MigrateRun ⟦<MemoryDesk as Desk>⟧.seen K.files F.holds F.lacks_folder
         W.contents R.remaining databases machine.old machine.new result words.now }
     ensures send { SendRun ⟦<MemoryDesk as Desk>⟧.seen K.files F.holds F.lacks_folder
-        W.contents R.remaining databases machine.old machine.new result words.now }
+        W.contents R.remaining databases machine.old machine.new result O.sends words.now }
     ensures convert { ConvertRun ⟦<MemoryDesk as Desk>⟧.seen K.files F.holds F.lacks_folder
         W.contents R.remaining databases machine.old machine.new result words.now }
     ensures check { CheckRun ⟦<MemoryDesk as Desk>⟧.seen K.files F.holds F.lacks_folder

@@ -41,7 +41,8 @@ pub(crate) fn run_task<D: Desk, T: Clock, F: NamedFiles, N: Entrances, R: Read, 
     ensures status { result ≤ 3 }
     ensures end { TaskEnds (Asked D.seen precedence.now desk.old desk.new)
         (Appends (W.contents streams.old.output) (W.contents streams.new.output))
-        task.now (F.holds files.now) (R.remaining streams.old.input) result }
+        task.now (F.holds files.now) (R.remaining streams.old.input)
+        (R.remaining streams.new.input) result }
 {
     match task {
         Task::Batch => answer_input(alloc, desk, precedence, streams),

@@ -10,9 +10,9 @@ use Rattle.clap.specs.declared.error.kind.ErrorKind.{ErrorKind}
 use Rattle.clap.specs.declared.error.kind.ErrorKind.TheVariants.{DisplayHelp, DisplayVersion}
 use Rattle.onix_terms.specs.Digits.{digits_of}
 use Rattle.program_words.specs.CommandLine.{onixdesk, program_commands}
-use Rattle.program_words.specs.ConvertWords.{AsksFor, IsBroken, asked_view, word_or}
+use Rattle.program_words.specs.ConvertWords.{AsksToConvert, word_or}
 use Rattle.program_words.specs.Words.{has_flag, text_in, texts_in}
-use Rattle.program_words.specs.declared.convert_words.BadWords.{BadWords}
+use Rattle.program_words.specs.declared.convert_words.Conversion.{Conversion}
 use Rattle.program_words.specs.declared.invocation.Action.{Action}
 use Rattle.program_words.specs.declared.invocation.Action.TheVariants.{CheckRules, CheckTerms, CheckTexts, Convert, InMemory, InFile, Listed, Migrate, Send}
 use Rattle.program_words.specs.declared.invocation.Database.{Database}
@@ -62,14 +62,6 @@ module _ (name : Text) (own : List Row) where
   IsListing listing.Gaps = (name ≡ codes "gaps") × (text_in own (codes "name") ≡ None)
   IsListing listing.Export = name ≡ codes "export"
 
-  -- the command is none, a number of `serve` has too many digits, or words of `convert` break
-  -- their rules
-  abbrev pub IsRefused : Type 0
-  IsRefused =
-      (list_any (λ s. bytes_eq name s.name) program_commands ≡ false)
-      ⊎ ((name ≡ codes "serve") × ((port_in own ≡ None) ⊎ (requests_in own ≡ None)))
-      ⊎ ((name ≡ codes "convert") × (bad : BadWords) × IsBroken own bad)
-
 module _ (top : List Row) where
   -- the database file is that of `--db`, which `--existing` wants to be there; without `--db` there
   -- is none
@@ -98,8 +90,17 @@ rules_for (CheckTerms file) named = None
 rules_for (CheckTexts files) named = None
 rules_for _ named = named
 
--- Top: the options before the command `name`
-module _ (top : List Row) (name : Text) (own : List Row) where
+-- Convert: what the words of `convert` ask for; none: they are refused. Top: the options before the
+-- command `name`
+module _ (convert : List Row → Option Conversion → Type 0) (top : List Row) (name : Text)
+    (own : List Row) where
+  -- the command is none, a number of `serve` has too many digits, or words of `convert` are refused
+  abbrev pub IsRefused : Type 0
+  IsRefused =
+      (list_any (λ s. bytes_eq name s.name) program_commands ≡ false)
+      ⊎ ((name ≡ codes "serve") × ((port_in own ≡ None) ⊎ (requests_in own ≡ None)))
+      ⊎ ((name ≡ codes "convert") × convert own None)
+
   -- no desk is open
   abbrev pub NoneIsOpen : Type 0
   NoneIsOpen = text_in top (codes "batches") ≡ None
@@ -113,7 +114,7 @@ module _ (top : List Row) (name : Text) (own : List Row) where
   IsAction (Send socket) =
       (name ≡ codes "batch") × (text_in top (codes "batches") ≡ Some socket.now)
   IsAction (Convert conversion) =
-      (name ≡ codes "convert") × AsksFor own (asked_view conversion) × NoneIsOpen
+      (name ≡ codes "convert") × convert own (Some conversion) × NoneIsOpen
   IsAction (CheckRules file) =
       (name ≡ codes "rules") × (file.now ≡ file_in own) × NoneIsOpen
   IsAction (CheckTerms file) =
@@ -140,7 +141,7 @@ module _ (top : List Row) (name : Text) (own : List Row) where
   ReadsAs reading.NoBatch =
       (bytes_eq name (codes "batch") ≡ false)
       × (is_some (text_in top (codes "batches")) ≡ true)
-  ReadsAs (reading.Wrong text) = IsRefused name own
+  ReadsAs (reading.Wrong text) = IsRefused
   ReadsAs (reading.Help text) = ⊥
   ReadsAs reading.Memory = ⊤
 
@@ -150,13 +151,13 @@ IsWrong (reading.Wrong text) = ⊤
 IsWrong reading.Memory = ⊤
 IsWrong _ = ⊥
 
-module _ (top : List Row) where
+module _ (convert : List Row → Option Conversion → Type 0) (top : List Row) where
   -- how words read in which that command stands, or none
   abbrev pub ReadsWords : Option (Text × List Row) → Reading → Type 0
   ReadsWords None reading = IsWrong reading
   ReadsWords (Some command) reading =
       ((go_together top ≡ false) × IsWrong reading)
-      ⊎ ((go_together top ≡ true) × ReadsAs top command.0 command.1 reading)
+      ⊎ ((go_together top ≡ true) × ReadsAs convert top command.0 command.1 reading)
 
 -- how an error of the library of the command line reads, by its kind
 abbrev pub ReadsKind : ErrorKind → Reading → Type 0
@@ -168,9 +169,17 @@ ReadsKind kind _ = ⊥
 -- How these words read, of which the first is the program's name: by an error that the library of
 -- the command line may give of them, or, if it gives none, by what they ask for; unless memory ran
 -- out
-abbrev pub Reads : List Text → Reading → Type 0
-Reads words read =
+abbrev pub ReadsBy : (List Row → Option Conversion → Type 0) → List Text → Reading → Type 0
+ReadsBy convert words read =
     (read ≡ reading.Memory)
     ⊎ ((k : ErrorKind) × IsAmong k (fault_of onixdesk words) × ReadsKind k read)
     ⊎ ((fault_of onixdesk words ≡ [])
-    × ReadsWords (matches_of onixdesk words) (subcommand_of onixdesk words) read)
+    × ReadsWords convert (matches_of onixdesk words) (subcommand_of onixdesk words) read)
+
+-- how they read, but for what words of `convert` ask for, of which nothing is said
+abbrev pub ReadsOther : List Text → Reading → Type 0
+ReadsOther = ReadsBy (λ own asked. ⊤)
+
+-- how they read, with those of `convert`
+abbrev pub Reads : List Text → Reading → Type 0
+Reads = ReadsBy AsksToConvert

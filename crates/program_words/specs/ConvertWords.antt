@@ -145,3 +145,8 @@ AsksNothing own bad.Memory = Unit {0}
 -- they ask for nothing, and not for want of memory
 abbrev pub IsBroken : List Row → BadWords → Type 0
 IsBroken own told = AsksNothing own told × (told ≢ bad.Memory)
+
+-- what they ask for; none: they are refused
+abbrev pub AsksToConvert : List Row → Option Conversion → Type 0
+AsksToConvert own (Some conversion) = AsksFor own (asked_view conversion)
+AsksToConvert own None = (bad : BadWords) × IsBroken own bad

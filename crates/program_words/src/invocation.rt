@@ -5,6 +5,7 @@ ghost use Rattle.clap.specs.Simple.{subcommand_rows_of};
 ghost use Rattle.clap.specs.Values.{kind_of};
 ghost use Rattle.clap.specs.Walk.{Row, Text};
 ghost use Rattle.program_words.specs.Asked.{IsDatabase, IsListing, IsRefused, IsTask, IsWrong, Reads, ReadsAs, ReadsKind, ReadsWords, file_in, files_in, go_together, port_in, requests_in};
+ghost use Rattle.program_words.specs.ConvertWords.{AsksToConvert};
 ghost use Rattle.program_words.specs.Words.{text_in, words_in};
 
 use crate::arguments::{has_flag, text_in, texts_in};
@@ -132,8 +133,8 @@ fn error_reading<'a>(alloc: Global, words: &[&str], error: &Error) -> Reading<'a
 // The words are told to be wrong.
 fn wrong_reading<'a>(alloc: Global, text: &str) -> Reading<'a>
     ensures wrong { IsWrong result }
-    ensures refused { (top : List Row) (name : Text) (own : List Row) → IsRefused name own
-        → ReadsAs top name own result }
+    ensures refused { (top : List Row) (name : Text) (own : List Row)
+        → IsRefused AsksToConvert top name own → ReadsAs AsksToConvert top name own result }
 {
     match String::from_str(alloc, text) {
         Ok(text) => Reading::Wrong(text),
@@ -197,7 +198,7 @@ fn database_of<'a>(matches: &ArgMatches<'a>) -> Option<Database<'a>>
 fn listing_reading<'a>(matches: &ArgMatches<'a>, listing: Listing) -> Reading<'a>
     ensures { (name : Text) (own : List Row) → IsListing name own listing
         → text_in (words_in matches.now) (codes "batches") ≡ None
-        → ReadsAs (words_in matches.now) name own result }
+        → ReadsAs AsksToConvert (words_in matches.now) name own result }
 {
     match database_of(matches) {
         Some(db) => Reading::Run(Invocation {
@@ -212,7 +213,7 @@ fn listing_reading<'a>(matches: &ArgMatches<'a>, listing: Listing) -> Reading<'a
 fn task_reading<'a>(matches: &ArgMatches<'a>, task: Task<'a>) -> Reading<'a>
     ensures { (name : Text) (own : List Row) → IsTask name own task.entry
         → text_in (words_in matches.now) (codes "batches") ≡ None
-        → ReadsAs (words_in matches.now) name own result }
+        → ReadsAs AsksToConvert (words_in matches.now) name own result }
 {
     match database_of(matches) {
         Some(db) => Reading::Run(Invocation {
@@ -229,7 +230,7 @@ fn task_reading<'a>(matches: &ArgMatches<'a>, task: Task<'a>) -> Reading<'a>
 // What `gaps` asks for: with a NAME one series, without it all.
 fn gaps_reading<'a>(matches: &ArgMatches<'a>, words: &ArgMatches<'a>) -> Reading<'a>
     ensures { text_in (words_in matches.now) (codes "batches") ≡ None
-        → ReadsAs (words_in matches.now) (codes "gaps") (words_in words.now) result }
+        → ReadsAs AsksToConvert (words_in matches.now) (codes "gaps") (words_in words.now) result }
 {
     match text_in(words, "name") {
         Some(series) => task_reading(matches, Task::Gaps(series)),
@@ -244,7 +245,8 @@ fn deliver_reading<'a>(
     words: &ArgMatches<'a>,
 ) -> Reading<'a>
     ensures { text_in (words_in matches.now) (codes "batches") ≡ None
-        → ReadsAs (words_in matches.now) (codes "deliver") (words_in words.now) result }
+        → ReadsAs AsksToConvert (words_in matches.now) (codes "deliver") (words_in words.now)
+        result }
 {
     match files_of(alloc, words) {
         Ok(files) => task_reading(matches, Task::Deliver(files)),
@@ -255,7 +257,7 @@ fn deliver_reading<'a>(
 // What `serve` asks for.
 fn serve_reading<'a>(alloc: Global, matches: &ArgMatches<'a>, words: &ArgMatches<'a>) -> Reading<'a>
     ensures { text_in (words_in matches.now) (codes "batches") ≡ None
-        → ReadsAs (words_in matches.now) (codes "serve") (words_in words.now) result }
+        → ReadsAs AsksToConvert (words_in matches.now) (codes "serve") (words_in words.now) result }
 {
     let Some(port) = port_of(words) else {
         return wrong_reading(alloc, NOT_DIGITS);
@@ -275,7 +277,7 @@ fn serve_reading<'a>(alloc: Global, matches: &ArgMatches<'a>, words: &ArgMatches
 // What `migrate` asks for.
 fn migrate_reading<'a>(matches: &ArgMatches<'a>) -> Reading<'a>
     ensures { (own : List Row) → text_in (words_in matches.now) (codes "batches") ≡ None
-        → ReadsAs (words_in matches.now) (codes "migrate") own result }
+        → ReadsAs AsksToConvert (words_in matches.now) (codes "migrate") own result }
 {
     match database_of(matches) {
         Some(db) => Reading::Run(Invocation {
@@ -289,7 +291,7 @@ fn migrate_reading<'a>(matches: &ArgMatches<'a>) -> Reading<'a>
 // What a command asks for whose batch goes to the desk at a socket.
 fn send_reading<'a>(socket: &'a str, name: &str) -> Reading<'a>
     ensures { (top own : List Row) → text_in top (codes "batches") ≡ Some socket.entry.now
-        → ReadsAs top name.now own result }
+        → ReadsAs AsksToConvert top name.now own result }
 {
     if name != "batch" {
         return Reading::NoBatch;
@@ -303,7 +305,7 @@ fn send_reading<'a>(socket: &'a str, name: &str) -> Reading<'a>
 // What `convert` asks for.
 fn convert_reading<'a>(alloc: Global, words: &ArgMatches<'a>) -> Reading<'a>
     ensures { (top : List Row) → text_in top (codes "batches") ≡ None
-        → ReadsAs top (codes "convert") (words_in words.now) result }
+        → ReadsAs AsksToConvert top (codes "convert") (words_in words.now) result }
 {
     let bad = match conversion_of(alloc, words) {
         Ok(conversion) => {
@@ -323,7 +325,7 @@ fn convert_reading<'a>(alloc: Global, words: &ArgMatches<'a>) -> Reading<'a>
 // What `rules` asks for.
 fn rules_reading<'a>(words: &ArgMatches<'a>) -> Reading<'a>
     ensures { (top : List Row) → text_in top (codes "batches") ≡ None
-        → ReadsAs top (codes "rules") (words_in words.now) result }
+        → ReadsAs AsksToConvert top (codes "rules") (words_in words.now) result }
 {
     let file = file_of(words);
     Reading::Run(Invocation {
@@ -335,7 +337,7 @@ fn rules_reading<'a>(words: &ArgMatches<'a>) -> Reading<'a>
 // What `terms` asks for.
 fn terms_reading<'a>(words: &ArgMatches<'a>) -> Reading<'a>
     ensures { (top : List Row) → text_in top (codes "batches") ≡ None
-        → ReadsAs top (codes "terms") (words_in words.now) result }
+        → ReadsAs AsksToConvert top (codes "terms") (words_in words.now) result }
 {
     let file = file_of(words);
     Reading::Run(Invocation {
@@ -347,7 +349,7 @@ fn terms_reading<'a>(words: &ArgMatches<'a>) -> Reading<'a>
 // What `check` asks for.
 fn check_reading<'a>(alloc: Global, words: &ArgMatches<'a>) -> Reading<'a>
     ensures { (top : List Row) → text_in top (codes "batches") ≡ None
-        → ReadsAs top (codes "check") (words_in words.now) result }
+        → ReadsAs AsksToConvert top (codes "check") (words_in words.now) result }
 {
     match files_of(alloc, words) {
         Ok(files) => Reading::Run(Invocation {
@@ -365,7 +367,7 @@ fn command_reading<'a>(
     name: &str,
     words: &ArgMatches<'a>,
 ) -> Reading<'a>
-    ensures { ReadsAs (words_in matches.now) name.now (words_in words.now) result }
+    ensures { ReadsAs AsksToConvert (words_in matches.now) name.now (words_in words.now) result }
 {
     if let Some(socket) = text_in(matches, "batches") {
         return send_reading(socket, name);
@@ -398,7 +400,8 @@ fn go_together(matches: &ArgMatches<'_>) -> bool
 
 // What words that clap let pass ask for.
 fn matched_reading<'a>(alloc: Global, matches: &ArgMatches<'a>) -> Reading<'a>
-    ensures { ReadsWords (words_in matches.now) (subcommand_rows_of matches.now) result }
+    ensures { ReadsWords AsksToConvert (words_in matches.now)
+        (subcommand_rows_of matches.now) result }
 {
     let Some((name, words)) = matches.subcommand() else {
         return wrong_reading(alloc, "");

@@ -21,13 +21,14 @@ returns-in-Ok-clause-end g c =
     let task = c.args.task.now in
     let holds = g.F.NamedFiles.holds c.args.machine.now.files in
     let told = g.R.Read.remaining c.args.machine.now.streams.input in
+    let kept = g.R.Read.remaining c.run_task-status.new.streams.input in
     let files = g.K.KeepsDesks.files in
     let name = c.args.db.now.name.now in
     let creation = creation_by c.args.db.now.is_existing in
-    over_files files c.args.databases name creation written (TaskLeads rules written task holds told) (task_between rules written task holds told) (seen first) (seen last) c.run_task-status.result c.close_desk.result.0
+    over_files files c.args.databases name creation written (TaskLeads rules written task holds told kept) (task_between rules written task holds told kept) (seen first) (seen last) c.run_task-status.result c.close_desk.result.0
     c.close_desk.result.1 (subst (λ by. OpensAs (files.found c.args.databases name by) (seen first)) c.creation_of.ensures c.in-Ok.ensures.ok) c.close_desk.ensures.end
     (task_as (Asked theirs rules first last) (λ steps. Leads rules steps (seen first) (seen last)) written
-    (λ steps trace. leads_as g.D.Desk.kind g.K.KeepsDesks.kind theirs seen g.met.K.KeepsDesks.same rules steps first last (traces_lead theirs rules steps first last trace)) task holds told c.run_task-status.result c.run_task-status.ensures.end)
+    (λ steps trace. leads_as g.D.Desk.kind g.K.KeepsDesks.kind theirs seen g.met.K.KeepsDesks.same rules steps first last (traces_lead theirs rules steps first last trace)) task holds told kept c.run_task-status.result c.run_task-status.ensures.end)
 
 pub returns-in-Err-clause-end : goal.returns-in-Err-clause-end
 returns-in-Err-clause-end g c = (

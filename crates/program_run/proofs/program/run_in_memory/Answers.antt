@@ -16,5 +16,5 @@ returns-clause-end g c =
       c.new-desk.ensures,
       tt,
       task_as (Asked ghosts.seen rules new last) (λ steps. Leads rules steps (ghosts.seen new) (ghosts.seen last)) written
-          (λ steps trace. traces_lead ghosts.seen rules steps new last trace) c.args.task.now (g.F.NamedFiles.holds c.args.files.now) (g.R.Read.remaining c.args.streams.now.input) c.run_task-status.result c.run_task-status.ensures.end,
+          (λ steps trace. traces_lead ghosts.seen rules steps new last trace) c.args.task.now (g.F.NamedFiles.holds c.args.files.now) (g.R.Read.remaining c.args.streams.now.input) (g.R.Read.remaining c.run_task-status.new.streams.input) c.run_task-status.result c.run_task-status.ensures.end,
     )

@@ -6,7 +6,7 @@ use Rattle.program_commands.specs.CommandEnds.{DeliverEnds}
 use Rattle.program_run.proofs.task.run_task.Goals as goal
 
 pub returns-in-Batch-clause-end : goal.returns-in-Batch-clause-end
-returns-in-Batch-clause-end g c = rw c.in-Batch.is c.answer_input.ensures.end
+returns-in-Batch-clause-end g c = rw c.in-Batch.is (c.answer_input.ensures.end, c.answer_input.ensures.taken)
 
 pub returns-in-Deliver-clause-end : goal.returns-in-Deliver-clause-end
 returns-in-Deliver-clause-end g c =

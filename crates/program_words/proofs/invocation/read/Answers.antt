@@ -5,6 +5,7 @@ use Rattle.clap.specs.Simple.{App, is_simple, matches_of, subcommand_of}
 use Rattle.clap.specs.Values.{kind_of}
 use Rattle.clap.specs.Walk.{Text}
 use Rattle.program_words.specs.Asked.{ReadsWords}
+use Rattle.program_words.specs.ConvertWords.{AsksToConvert}
 use Rattle.program_words.proofs.CommandLemmas.{onixdesk_is_free, onixdesk_is_simple}
 use Rattle.program_words.proofs.invocation.read.Goals as goal
 
@@ -17,7 +18,7 @@ returns-in-Ok-try_get_matches_from c =
     let none = gave.kinds (ap is_simple_and_free is ∙ onixdesk_is_free) in
     inr (inr (
       ap (λ (a : App). fault_of a words) (sym is) ∙ none,
-      subst₂ (λ top command. ReadsWords top command c.matched_reading.result)
+      subst₂ (λ top command. ReadsWords AsksToConvert top command c.matched_reading.result)
           (found.0 ∙ ap (λ (a : App). matches_of a words) is) (found.1 ∙ ap (λ (a : App). subcommand_of a words) is) c.matched_reading.ensures,
     ))
 

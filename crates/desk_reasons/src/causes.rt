@@ -19,7 +19,7 @@ use watched_output::shown_texts::push_shown;
 // How many characters of a field are shown.
 const SHOWN: usize = 40;
 
-// How many fields of a Product are asked about one by one.
+// How many fields a record has at most that the desk is asked about.
 const MOST_ASKED: usize = 100;
 
 // The field of a record at a place, which is 0 for its name; empty where it has none.
@@ -177,11 +177,16 @@ fn push_wrong(
     form: Form,
     given: &Record<'_>,
 ) -> Result<bool, AllocError> {
-    if form.repeats() && given.len() > MOST_ASKED {
-        text.push_str("one of its fields is wrong")?;
+    if given.len() > MOST_ASKED && form.repeats() {
+        text.push_str("one of its fields is wrong, or it is not allowed here")?;
         return Ok(true);
     }
-    match place_of(alloc, before, form, given)? {
+    let place = if given.len() > MOST_ASKED {
+        Some(0)
+    } else {
+        place_of(alloc, before, form, given)?
+    };
+    match place {
         None => return Ok(false),
         Some(0) => push_miscounted(text, given, form)?,
         Some(place) => push_refused(text, given, form, place)?,

@@ -5,11 +5,10 @@ ghost use Rattle.std.specs.Prelude.{◌≡◌, ◌<◌, IfOk, length};
 use crate::fields::{Field, Kind, hint, rule};
 use crate::refused::first_refused;
 use crate::rows::{Form, alike, form_of, is_of_message};
-use csv_records::buffer::RecordBuffer;
 use csv_records::fields::FieldBuffer;
-use csv_records::reading::append_text;
 use csv_records::record::Record;
 use csv_records::records::Records;
+use csv_records::writing::write_records;
 use onix_records::MOST_RECORDS;
 use onix_records::fields::is_clean;
 use onix_terms::digits::read_digits;
@@ -55,16 +54,16 @@ fn sample_of(alloc: Global, form: Form, given: &Record<'_>) -> Result<FieldBuffe
     Ok(fields)
 }
 
-/// The place of the first field of a record of this form that the desk refuses behind these records:
-/// 0 where it has another number of fields.
+/// The place of the first field of a record of this form that the desk refuses behind the records of
+/// a text: 0 where it has another number of fields.
 pub(crate) fn place_of(
     alloc: Global,
-    before: &RecordBuffer,
+    before: &str,
     form: Form,
     given: &Record<'_>,
 ) -> Result<Option<usize>, AllocError> {
     let sample = sample_of(alloc, form, given)?;
-    first_refused(alloc, &before.as_records(), given, &sample.as_record())
+    first_refused(alloc, before, given, &sample.as_record())
 }
 
 // Adds what stands in a field.
@@ -169,11 +168,12 @@ fn push_miscounted(text: &mut String, given: &Record<'_>, form: Form) -> Result<
     text.push_str(hint_of_form(form, given))
 }
 
-// Adds what is wrong with a record of this form behind these records, and says whether something is.
+// Adds what is wrong with a record of this form behind the records of a text, and says whether
+// something is.
 fn push_wrong(
     alloc: Global,
     text: &mut String,
-    before: &RecordBuffer,
+    before: &str,
     form: Form,
     given: &Record<'_>,
 ) -> Result<bool, AllocError> {
@@ -237,49 +237,32 @@ fn leading(name: &str) -> &'static str {
     }
 }
 
-// Adds what is wrong with a record of this form in a message that has that header.
-fn push_wrong_part(
-    alloc: Global,
-    text: &mut String,
-    header: &Record<'_>,
-    form: Form,
-    given: &Record<'_>,
-) -> Result<bool, AllocError> {
-    let form = if field_at(header, 1) == "2" {
-        form
-    } else {
-        form.without_minimum()
-    };
-    let mut before = RecordBuffer::new(alloc);
-    before.push(header)?;
-    append_text(alloc, &mut before, leading(form.name))?;
-    push_wrong(alloc, text, &before, form, given)
-}
-
-// Adds why a record of a message is wrong, which has that header, and before which there is this
-// record, and so many.
+// Adds why the record at an index of a message is wrong.
 fn push_part(
     alloc: Global,
     text: &mut String,
-    header: &Record<'_>,
-    before: &Record<'_>,
-    given: &Record<'_>,
+    piece: &Records<'_>,
     index: usize,
-) -> Result<(), AllocError> {
-    let name = field_at(given, 0);
+) -> Result<(), AllocError>
+    requires { (0 < index) × (index < length piece.now) }
+{
+    let given = piece.record(index);
+    let name = field_at(&given, 0);
     if index >= MOST_RECORDS {
         return text.push_str("a message has at most 20000 records");
     }
     let form = match form_of(name) {
-        Some(form) if is_of_message(name) => form,
+        Some(form) if is_of_message(name) => form.in_form(field_at(&piece.record(0), 1)),
         _ => return push_misnamed(text, name, "no record of a message has this name"),
     };
-    let count = field_at(given, 1);
+    let count = field_at(&given, 1);
     let is_end = name == "EndMessage" && given.len() == 2 && read_digits(count).is_some();
-    if !is_end && push_wrong_part(alloc, text, header, form, given)? {
+    let mut before = write_records(alloc, &piece.part(0, 1))?;
+    before.push_str(leading(name))?;
+    if !is_end && push_wrong(alloc, text, before.as_str(), form, &given)? {
         return Ok(());
     }
-    match misplaced(name, field_at(before, 0)) {
+    match misplaced(name, field_at(&piece.record(index - 1), 0)) {
         Some(words) => text.push_str(words),
         None if is_end => write!(
             text,
@@ -299,7 +282,7 @@ fn push_first(alloc: Global, text: &mut String, given: &Record<'_>) -> Result<()
         let words = "no request has this name; a text of requests has no heading";
         return push_misnamed(text, name, words);
     };
-    if push_wrong(alloc, text, &RecordBuffer::new(alloc), form, given)? {
+    if push_wrong(alloc, text, "", form, given)? {
         return Ok(());
     }
     text.push_str(

@@ -3,7 +3,6 @@
 use crate::causes::{place_of, push_broken};
 use crate::fields::Field;
 use crate::rows::question_of;
-use csv_records::buffer::RecordBuffer;
 use csv_records::fields::FieldBuffer;
 use form_urlencoded::parse;
 use std::alloc::{AllocError, Global};
@@ -68,12 +67,13 @@ pub(crate) fn push_question(
     };
     let pairs = pairs_of(alloc, query)?;
     let mut request = FieldBuffer::new(alloc);
-    request.push_all(&[form.name, article])?;
+    request.push(form.name)?;
+    request.push(article)?;
     if !fill(text, &mut request, keys, pairs.as_slice())? {
         return Ok(true);
     }
     let request = request.as_record();
-    let Some(place) = place_of(alloc, &RecordBuffer::new(alloc), form, &request)? else {
+    let Some(place) = place_of(alloc, "", form, &request)? else {
         return Ok(false);
     };
     let (Some(field), Some(value)) = (form.field(place), request.get(place)) else {

@@ -1,11 +1,13 @@
 //! The first field of a record that the desk refuses: it is asked, field by field.
 
 ghost use Rattle.std.specs.Prelude.{◌≡◌, ◌<◌, ◌++◌, ◌∷◌, [], IfOk, length, suc, take, drop};
+ghost use Rattle.csv_records.specs.RecordTexts.{records_of};
 ghost use Rattle.desk_reasons.specs.Refused.{IsFirst, ends_malformed, is_refused_at, malformed_row, row_of_message};
 ghost use Rattle.desk_texts.specs.RequestRows.{request_of};
 
 use csv_records::buffer::RecordBuffer;
 use csv_records::fields::FieldBuffer;
+use csv_records::reading::append_text;
 use csv_records::record::Record;
 use csv_records::records::Records;
 use desk_texts::request_rows::read_request;
@@ -50,22 +52,6 @@ fn ends_malformed(alloc: Global, piece: RecordBuffer) -> Result<bool, AllocError
     }
 }
 
-// These records, and one more.
-fn joined(
-    alloc: Global,
-    before: &Records<'_>,
-    last: &Record<'_>,
-) -> Result<RecordBuffer, AllocError>
-    ensures { IfOk result (λ piece. piece ≡ before.now ++ last.now ∷ []) }
-{
-    let mut piece = RecordBuffer::new(alloc);
-    for index in 0..before.len() {
-        piece.push(&before.record(index))?;
-    }
-    piece.push(last)?;
-    Ok(piece)
-}
-
 // The fields of a record up to a place, and those of a sample after it.
 fn mixed(
     alloc: Global,
@@ -84,33 +70,36 @@ fn mixed(
     Ok(fields)
 }
 
-// Whether the desk refuses, behind these records, one with the fields of this one up to a place, and
-// those of a sample after it.
+// Whether the desk refuses, behind the records of a text, one with the fields of this one up to a
+// place, and those of a sample after it.
 fn is_refused_at(
     alloc: Global,
-    before: &Records<'_>,
+    before: &str,
     given: &Record<'_>,
     sample: &Record<'_>,
     place: usize,
 ) -> Result<bool, AllocError>
     requires { (place < length given.now) × (length sample.now ≡ length given.now) }
     ensures { IfOk result
-        (λ answer. answer ≡ is_refused_at before.now given.now sample.now place) }
+        (λ answer. answer ≡ is_refused_at (records_of before.now) given.now sample.now place) }
 {
+    let mut piece = RecordBuffer::new(alloc);
+    append_text(alloc, &mut piece, before)?;
     let fields = mixed(alloc, given, sample, place)?;
-    ends_malformed(alloc, joined(alloc, before, &fields.as_record())?)
+    piece.push(&fields.as_record())?;
+    ends_malformed(alloc, piece)
 }
 
-/// The place of the first field of a record that the desk refuses behind these records, where the
-/// fields of a sample stand after it. None where it takes them all.
+/// The place of the first field of a record that the desk refuses behind the records of a text, where
+/// the fields of a sample stand after it. None where it takes them all.
 pub fn first_refused(
     alloc: Global,
-    before: &Records<'_>,
+    before: &str,
     given: &Record<'_>,
     sample: &Record<'_>,
 ) -> Result<Option<usize>, AllocError>
     requires { length sample.now ≡ length given.now }
-    ensures { IfOk result (λ place. IsFirst before.now given.now sample.now place) }
+    ensures { IfOk result (λ place. IsFirst (records_of before.now) given.now sample.now place) }
 {
     for place in 0..given.len() {
         if is_refused_at(alloc, before, given, sample, place)? {

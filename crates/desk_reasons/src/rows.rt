@@ -90,10 +90,10 @@ impl Form {
         self.name == "Product"
     }
 
-    /// The same in a message of form 1.
-    pub(crate) fn without_minimum(self) -> Form {
+    /// The same in a message of this form.
+    pub(crate) fn in_form(self, form: &str) -> Form {
         match self.fields.get(..self.least) {
-            Some(fields) if self.name == "Price" => Form { fields, ..self },
+            Some(fields) if self.name == "Price" && form != "2" => Form { fields, ..self },
             _ => self,
         }
     }

@@ -26,17 +26,6 @@ fn field_at<'a>(record: &Record<'a>, place: usize) -> &'a str {
     record.get(place).unwrap_or("")
 }
 
-// A field that has what no field may have.
-fn unclean<'a>(record: &Record<'a>) -> Option<&'a str> {
-    for place in 0..record.len() {
-        let value = field_at(record, place);
-        if !is_clean(value.as_bytes()) {
-            return Some(value);
-        }
-    }
-    None
-}
-
 // A record that is right, of as many fields as this one.
 fn sample_of(alloc: Global, form: Form, given: &Record<'_>) -> Result<FieldBuffer, AllocError>
     ensures { IfOk result (λ fields. length fields ≡ length given.now) }
@@ -95,9 +84,14 @@ fn push_refused(
     let Some(field) = form.field(place) else {
         return Ok(());
     };
-    let value = field_at(given, place);
     let name = field.name;
-    let before = form.name_at(place.saturating_sub(1));
+    let value = field_at(given, place);
+    if !is_clean(value.as_bytes()) {
+        push_value(text, name, value)?;
+        return text.push_str(" has more than 1024 bytes or a control character");
+    }
+    let before = form.field(place.saturating_sub(1));
+    let before = before.map_or("", |field| field.name);
     match field.kind {
         Kind::Value if value.is_empty() => {
             write!(
@@ -177,16 +171,11 @@ fn push_wrong(
     form: Form,
     given: &Record<'_>,
 ) -> Result<bool, AllocError> {
-    if given.len() > MOST_ASKED && form.repeats() {
-        text.push_str("one of its fields is wrong, or it is not allowed here")?;
+    if given.len() > MOST_ASKED {
+        text.push_str("it has too many fields, one of them is wrong, or it is not allowed here")?;
         return Ok(true);
     }
-    let place = if given.len() > MOST_ASKED {
-        Some(0)
-    } else {
-        place_of(alloc, before, form, given)?
-    };
-    match place {
+    match place_of(alloc, before, form, given)? {
         None => return Ok(false),
         Some(0) => push_miscounted(text, given, form)?,
         Some(place) => push_refused(text, given, form, place)?,
@@ -302,23 +291,11 @@ fn push_at(
     let given = piece.record(index);
     push_value(text, "", field_at(&given, 0))?;
     text.push_str(": ")?;
-    if let Some(value) = unclean(&given) {
-        push_value(text, "a field", value)?;
-        return text.push_str(" has more than 1024 bytes or a control character");
-    }
     if index == 0 {
         return push_first(alloc, text, &given);
     }
-    let header = piece.record(0);
-    if field_at(&header, 0) == "Message" {
-        return push_part(
-            alloc,
-            text,
-            &header,
-            &piece.record(index - 1),
-            &given,
-            index,
-        );
+    if field_at(&piece.record(0), 0) == "Message" {
+        return push_part(alloc, text, piece, index);
     }
     push_misnamed(
         text,

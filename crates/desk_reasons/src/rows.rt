@@ -105,11 +105,6 @@ impl Form {
         let at = if is_again { 2 + place % 2 } else { place };
         self.fields.get(at).copied()
     }
-
-    /// The name of the field at a place; empty where there is none.
-    pub(crate) fn name_at(&self, place: usize) -> &'static str {
-        self.field(place).map_or("", |field| field.name)
-    }
 }
 
 /// Whether a record of this name is one of a message.

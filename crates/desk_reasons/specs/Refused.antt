@@ -1,6 +1,6 @@
 -- Which field of a record the desk refuses first.
-use Rattle.std.specs.Prelude.{◌≡◌, ◌<◌, ◌==◌, ◌++◌, ◌∷◌, [], ℕ, Bool, true, false, suc, Option, Some}
-use Rattle.std.specs.Prelude.{None, length, take, drop, if◌then◌else◌}
+use Rattle.std.specs.Prelude.{◌≡◌, ◌<◌, ◌==◌, ◌++◌, ◌∷◌, [], ℕ, Bool, true, false, suc, Option}
+use Rattle.std.specs.Prelude.{Some, None, length, take, drop, if◌then◌else◌}
 use Rattle.std.specs.Option.{is_some, option_map_or}
 use Rattle.onix_records.specs.Message.{bad_row, message_of}
 use Rattle.series_rules.specs.declared.requests.Request.{Request}
@@ -24,8 +24,8 @@ abbrev pub ends_malformed : Records → Bool
 ends_malformed piece =
     option_map_or (λ row. row == length piece) (malformed_row (request_of piece)) false
 
--- whether it does so where that record, behind these, has the fields of one record up to a place, and
--- those of a sample after it
+-- whether it does so where that record, behind these, has the fields of one record up to a place,
+-- and those of a sample after it
 abbrev pub is_refused_at : Records → Fields → Fields → ℕ → Bool
 is_refused_at before given sample place =
     ends_malformed (before ++ (take (suc place) given ++ drop (suc place) sample) ∷ [])

@@ -32,10 +32,11 @@ fn sample_of(alloc: Global, form: Form, given: &Record<'_>) -> Result<FieldBuffe
 {
     let mut fields = FieldBuffer::new(alloc);
     for place in 0..given.len() {
-        let has_type = !field_at(given, place.saturating_sub(1)).is_empty();
+        let before = place.saturating_sub(1);
         let text = match form.field(place).map(|field| field.kind) {
             None => form.name,
-            Some(Kind::Value) if !has_type => "",
+            Some(Kind::Type) if field_at(given, place).is_empty() => "",
+            Some(Kind::Value) if field_at(given, before).is_empty() => "",
             Some(kind) => rule(kind).0,
         };
         fields.push(text)?;
@@ -43,8 +44,8 @@ fn sample_of(alloc: Global, form: Form, given: &Record<'_>) -> Result<FieldBuffe
     Ok(fields)
 }
 
-/// The place of the first field of a record of this form that the desk refuses behind the records of
-/// a text: 0 where it has another number of fields.
+/// The place of the first field of a record of this form that the desk refuses behind the records
+/// of a text: 0 where it has another number of fields.
 pub(crate) fn place_of(
     alloc: Global,
     before: &str,
@@ -92,17 +93,16 @@ fn push_refused(
     }
     let before = form.field(place.saturating_sub(1));
     let before = before.map_or("", |field| field.name);
+    let (empty, there) = if value.is_empty() {
+        (name, before)
+    } else {
+        (before, name)
+    };
     match field.kind {
-        Kind::Value if value.is_empty() => {
-            write!(
-                text,
-                "{name} is empty, and {before} is not; fill both, or neither"
-            )
-        }
         Kind::Value => {
             write!(
                 text,
-                "{before} is empty, and {name} is not; fill both, or neither"
+                "{empty} is empty, and {there} is not; fill both, or neither"
             )
         }
         Kind::SupplierName => {

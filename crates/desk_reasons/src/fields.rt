@@ -7,7 +7,8 @@ pub(crate) enum Kind {
     Code,
     Filled,
     Anything,
-    // The value of an identifier, which is empty exactly where its type before it is.
+    // The type of an identifier, and its value behind it, which are both empty where there is none.
+    Type,
     Value,
     // Where it is empty, the identifier before it is not.
     SupplierName,
@@ -36,7 +37,7 @@ pub(crate) struct Field {
 pub(crate) fn rule(kind: Kind) -> (&'static str, &'static str) {
     match kind {
         Kind::Series => ("a", "1 to 32 characters of a to z, 0 to 9 and -"),
-        Kind::Code => ("02", "two digits"),
+        Kind::Code | Kind::Type => ("02", "two digits"),
         Kind::Filled => ("a", "a text that is not empty"),
         Kind::Anything | Kind::Value | Kind::SupplierName => ("a", "a text"),
         Kind::Number | Kind::FirstNumber => ("1", "a number of 1 or more, in at most 9 digits"),
@@ -82,8 +83,8 @@ pub(crate) fn hint(kind: Kind, text: &str) -> &'static str {
             "; write capital letters"
         }
         Kind::Countries if text.contains([',', ';']) => "; put spaces between them",
-        Kind::Code if text == "GLN" => "; the code of a GLN is 06",
-        Kind::Code if digits == 1 && text.len() == 1 => {
+        Kind::Code | Kind::Type if text == "GLN" => "; the code of a GLN is 06",
+        Kind::Code | Kind::Type if digits == 1 && text.len() == 1 => {
             "; a spreadsheet may have taken the 0 at its front"
         }
         Kind::Amount if text.contains(',') => "; write a point, and no comma",

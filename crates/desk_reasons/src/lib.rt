@@ -2,8 +2,8 @@
 //!
 //! `explaining` makes a line for each request that is malformed, while its records are in hand:
 //! `refused` asks the desk which field of a record it refuses first, `rows` has the fields of each
-//! record by their names, `fields` what each has to be, `causes` the words, and `lines` the line of the
-//! text on which each record begins. `questions` does the same for a question over HTTP.
+//! record by their names, `fields` what each has to be, `causes` the words, and `lines` the line of
+//! the text on which each record begins. `questions` does the same for a question over HTTP.
 //!
 //! What is written decides no answer.
 #![tactic(auto)]

@@ -2,9 +2,9 @@
 
 use memchr::{memchr, memchr2};
 
-// Whether a byte stands between quotation marks, and whether a mark in its place would open them: at
-// the beginning of a field, and behind the mark that closes them, where it is doubled. The same behind
-// a byte that ends no record.
+// Whether a byte stands between quotation marks, and whether a mark in its place would open them:
+// at the beginning of a field, and behind the mark that closes them, where it is doubled. The same
+// behind a byte that ends no record.
 fn next_place(place: (bool, bool), byte: u8) -> (bool, bool) {
     let (is_quoted, may_open) = place;
     match byte {

@@ -2,7 +2,7 @@
 
 use crate::causes::{place_of, push_broken};
 use crate::fields::Field;
-use crate::rows::question_of;
+use crate::rows::{Form, form_of, key_of};
 use csv_records::fields::FieldBuffer;
 use form_urlencoded::parse;
 use std::alloc::{AllocError, Global};
@@ -26,24 +26,25 @@ fn pairs_of<'q>(
     Ok(pairs)
 }
 
-// Adds the values of the keys but the first, the article, to a request, and says whether each is given
-// once. If one is not, this is told.
+// Adds the values of the keys of a question to its request, and says whether each is given once. If
+// one is not, this is told.
 fn fill(
     text: &mut String,
     request: &mut FieldBuffer,
-    keys: &[&str],
+    form: Form,
     pairs: &[(CowStr<'_>, CowStr<'_>)],
 ) -> Result<bool, AllocError> {
-    for key in keys.iter().skip(1) {
-        let given = pairs.iter().filter(|pair| pair.0.as_str() == *key);
+    for field in form.fields.iter().skip(1) {
+        let key = key_of(field.name);
+        let given = pairs.iter().filter(|pair| pair.0.as_str() == key);
         let count = given.count();
         if count > 1 {
             write!(text, "{key} is given {count} times")?;
             return Ok(false);
         }
-        match pairs.iter().find(|pair| pair.0.as_str() == *key) {
+        match pairs.iter().find(|pair| pair.0.as_str() == key) {
             Some((_, value)) => request.push(value.as_str())?,
-            None if *key == "quantity" => {}
+            None if key == "quantity" => {}
             None => {
                 write!(text, "{key} is missing")?;
                 return Ok(false);
@@ -61,15 +62,20 @@ pub(crate) fn push_question(
     target: &str,
 ) -> Result<bool, AllocError> {
     let (path, query) = target.split_once('?').unwrap_or((target, ""));
-    let (article, word) = question_in(path);
-    let Some((form, keys)) = question_of(word) else {
+    let (article, question) = question_in(path);
+    let name = if question == "calendar" {
+        "AskCalendar"
+    } else {
+        "AskPrice"
+    };
+    let Some(form) = form_of(name) else {
         return Ok(false);
     };
     let pairs = pairs_of(alloc, query)?;
     let mut request = FieldBuffer::new(alloc);
-    request.push(form.name)?;
+    request.push(name)?;
     request.push(article)?;
-    if !fill(text, &mut request, keys, pairs.as_slice())? {
+    if !fill(text, &mut request, form, pairs.as_slice())? {
         return Ok(true);
     }
     let request = request.as_record();
@@ -79,7 +85,7 @@ pub(crate) fn push_question(
     let (Some(field), Some(value)) = (form.field(place), request.get(place)) else {
         return Ok(false);
     };
-    let name = *keys.get(place.saturating_sub(1)).unwrap_or(&field.name);
+    let name = key_of(field.name);
     push_broken(text, Field { name, ..field }, value)?;
     Ok(true)
 }

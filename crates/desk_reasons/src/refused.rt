@@ -90,8 +90,8 @@ fn is_refused_at(
     ends_malformed(alloc, piece)
 }
 
-/// The place of the first field of a record that the desk refuses behind the records of a text, where
-/// the fields of a sample stand after it. None where it takes them all.
+/// The place of the first field of a record that the desk refuses behind the records of a text,
+/// where the fields of a sample stand after it. None where it takes them all.
 pub fn first_refused(
     alloc: Global,
     before: &str,

@@ -1,5 +1,4 @@
-//! The records of requests and of messages, and the keys of queries: the names of their fields, and
-//! what each has to be.
+//! The records of requests and of messages: the names of their fields, and what each has to be.
 
 use crate::fields::{Field, Kind};
 
@@ -28,7 +27,7 @@ macro_rules! form {
 static FORMS: [Form; 13] = [
     form! {
         "Agree" 6, "Series": Series, "SenderIDType": Code, "SenderIDValue": Filled,
-        "AddresseeIDType": Code, "AddresseeIDValue": Value, "FirstNumber": FirstNumber,
+        "AddresseeIDType": Type, "AddresseeIDValue": Value, "FirstNumber": FirstNumber,
     },
     form! { "Waive" 2, "Series": Series, "Number": Number },
     form! {
@@ -47,7 +46,7 @@ static FORMS: [Form; 13] = [
     form! { "AskCatalogue" 1, "Series": Series },
     form! {
         "Message" 10, "Form": Form, "SenderIDType": Code, "SenderIDValue": Filled,
-        "AddresseeIDType": Code, "AddresseeIDValue": Value, "MessageNumber": Number,
+        "AddresseeIDType": Type, "AddresseeIDValue": Value, "MessageNumber": Number,
         "MessageRepeat": Digits, "SentDateTime": Anything, "DefaultPriceType": Code,
         "DefaultCurrencyCode": Currency,
     },
@@ -60,7 +59,7 @@ static FORMS: [Form; 13] = [
         "CountriesExcluded": Countries,
     },
     form! {
-        "SupplyDetail" 6, "SupplierRole": Code, "SupplierIDType": Code, "SupplierIDValue": Value,
+        "SupplyDetail" 6, "SupplierRole": Code, "SupplierIDType": Type, "SupplierIDValue": Value,
         "SupplierName": SupplierName, "ProductAvailability": Code, "UnpricedItemType": Code,
     },
     form! {
@@ -115,32 +114,16 @@ pub(crate) fn is_of_message(name: &str) -> bool {
     )
 }
 
-/// The form of the request that asks what a question over HTTP does, and what its fields are called
-/// there. None where nothing is asked so.
-pub(crate) fn question_of(word: &str) -> Option<(Form, &'static [&'static str])> {
-    let (name, keys) = match word {
-        "price" | "choice" => ("AskPrice", &PRICE_KEYS[..]),
-        "calendar" => ("AskCalendar", &CALENDAR_KEYS[..]),
-        _ => return None,
-    };
-    Some((form_of(name)?, keys))
+/// What a field of a question is called over HTTP.
+pub(crate) fn key_of(name: &str) -> &'static str {
+    match name {
+        "Article" => "the article",
+        "Day" => "day",
+        "FirstDay" => "from",
+        "LastDay" => "to",
+        "Country" => "country",
+        "Currency" => "currency",
+        "PriceType" => "type",
+        _ => "quantity",
+    }
 }
-
-static PRICE_KEYS: [&str; 6] = [
-    "the article",
-    "day",
-    "country",
-    "currency",
-    "type",
-    "quantity",
-];
-
-static CALENDAR_KEYS: [&str; 7] = [
-    "the article",
-    "from",
-    "to",
-    "country",
-    "currency",
-    "type",
-    "quantity",
-];

@@ -5,4 +5,5 @@ use Rattle.desk_reasons.proofs.refused.first_refused.Given as goal
 
 abbrev pub invariant-loop-place : goal.invariant-loop-place
 invariant-loop-place l =
-    (place : ℕ) → place < l.place → is_refused_at (records_of l.before) l.given l.sample place ≡ false
+    (place : ℕ) → place < l.place
+    → is_refused_at (records_of l.before) l.given l.sample place ≡ false

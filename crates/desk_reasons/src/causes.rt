@@ -1,167 +1,207 @@
 //! Why a record may not stand where it stands, in words.
 
-ghost use Rattle.std.specs.Prelude.{◌<◌, length};
+ghost use Rattle.std.specs.Prelude.{◌≡◌, ◌<◌, IfOk, length};
 
-use crate::fields::{Field, hint, rule, takes};
-use crate::rows::{Form, NAMES, form_of, is_of_message};
+use crate::fields::{Field, Kind, hint, rule};
+use crate::refused::first_refused;
+use crate::rows::{Form, alike, form_of, is_of_message};
+use csv_records::fields::FieldBuffer;
 use csv_records::record::Record;
 use csv_records::records::Records;
+use csv_records::writing::write_records;
 use onix_records::MOST_RECORDS;
 use onix_records::fields::is_clean;
-use std::alloc::AllocError;
+use onix_terms::digits::read_digits;
+use std::alloc::{AllocError, Global};
 use watched_output::shown_texts::push_shown;
 
 // How many characters of a field are shown.
 const SHOWN: usize = 40;
 
-// Where the defaults stand among the fields of a Message.
-const DEFAULT_TYPE: usize = 9;
-
-const DEFAULT_CURRENCY: usize = 10;
+// How many fields a record has at most that the desk is asked about.
+const MOST_ASKED: usize = 100;
 
 // The field of a record at a place, which is 0 for its name; empty where it has none.
 fn field_at<'a>(record: &Record<'a>, place: usize) -> &'a str {
     record.get(place).unwrap_or("")
 }
 
-// How many fields a record has behind its name.
-fn count_of(record: &Record<'_>) -> usize {
-    record.len().saturating_sub(1)
-}
-
-// How many fields at the end of a record are empty.
-fn count_empty(record: &Record<'_>) -> usize {
-    let mut count = 0usize;
-    for place in 1..record.len() {
-        count = if field_at(record, place).is_empty() {
-            count.saturating_add(1)
-        } else {
-            0
+// A record that is right, of as many fields as this one.
+fn sample_of(alloc: Global, form: Form, given: &Record<'_>) -> Result<FieldBuffer, AllocError>
+    ensures { IfOk result (λ fields. length fields ≡ length given.now) }
+{
+    let mut fields = FieldBuffer::new(alloc);
+    for place in 0..given.len() {
+        let before = place.saturating_sub(1);
+        let text = match form.field(place).map(|field| field.kind) {
+            None => form.name,
+            Some(Kind::Type) if field_at(given, place).is_empty() => "",
+            Some(Kind::Value) if field_at(given, before).is_empty() => "",
+            Some(kind) => rule(kind).0,
         };
+        fields.push(text)?;
     }
-    count
+    Ok(fields)
 }
 
-// What is said of a record that is right, but for what comes before it.
-const NOT_ALLOWED: &str = "it is not allowed here";
-
-// Why a record may not stand where it stands.
-#[derive(Clone, Copy)]
-enum Why<'a> {
-    // For this, in words.
-    Words(&'static str),
-    // A field breaks its rule, with this value.
-    Broken(Field, &'a str),
-    // A field with this value has what none may have.
-    Unclean(&'a str),
-    // It has another number of fields behind its name.
-    Miscounted(Form),
-    // Of two fields that go together the first is empty.
-    Half(&'static str, &'static str),
-    // Its name is this one, written otherwise.
-    Misspelt(&'static str),
-    // An EndMessage counts so many records, and those before it are so many.
-    Records(&'a str, usize),
+/// The place of the first field of a record of this form that the desk refuses behind the records
+/// of a text: 0 where it has another number of fields.
+pub(crate) fn place_of(
+    alloc: Global,
+    before: &str,
+    form: Form,
+    given: &Record<'_>,
+) -> Result<Option<usize>, AllocError> {
+    let sample = sample_of(alloc, form, given)?;
+    first_refused(alloc, before, given, &sample.as_record())
 }
 
-// That a field has what no field may have.
-fn unclean<'a>(record: &Record<'a>) -> Option<Why<'a>> {
-    for place in 0..record.len() {
-        let value = field_at(record, place);
-        if !is_clean(value.as_bytes()) {
-            return Some(Why::Unclean(value));
-        }
+// Adds what stands in a field.
+fn push_value(text: &mut String, name: &str, value: &str) -> Result<(), AllocError> {
+    text.push_str(name)?;
+    text.push_str(" ")?;
+    push_shown(text, value, SHOWN)
+}
+
+/// Adds that a field is refused with this value.
+pub(crate) fn push_broken(text: &mut String, field: Field, value: &str) -> Result<(), AllocError> {
+    let (_, meaning) = rule(field.kind);
+    if value.is_empty() {
+        return write!(text, "{} is empty; it has to be {meaning}", field.name);
     }
-    None
+    push_value(text, field.name, value)?;
+    text.push_str(" is not ")?;
+    text.push_str(meaning)?;
+    text.push_str(hint(field.kind, value))
 }
 
-// That of the type and the value of an identifier one is empty.
-fn half<'a>(
-    record: &Record<'a>,
+// Adds what is wrong with a record whose field at a place is refused.
+fn push_refused(
+    text: &mut String,
+    given: &Record<'_>,
+    form: Form,
     place: usize,
-    names: (&'static str, &'static str),
-) -> Option<Why<'a>> {
-    let has_type = !field_at(record, place).is_empty();
-    let has_value = !field_at(record, place.saturating_add(1)).is_empty();
-    match (has_type, has_value) {
-        (true, false) => Some(Why::Half(names.1, names.0)),
-        (false, true) => Some(Why::Half(names.0, names.1)),
-        _ => None,
+) -> Result<(), AllocError> {
+    let Some(field) = form.field(place) else {
+        return Ok(());
+    };
+    let name = field.name;
+    let value = field_at(given, place);
+    if !is_clean(value.as_bytes()) {
+        push_value(text, name, value)?;
+        return text.push_str(" has more than 1024 bytes or a control character");
     }
-}
-
-// That a supplier has neither an identifier nor a name, or half an identifier.
-fn nameless<'a>(record: &Record<'a>) -> Option<Why<'a>> {
-    if (2..5).all(|place| field_at(record, place).is_empty()) {
-        let words = "the supplier has neither an identifier nor a SupplierName";
-        return Some(Why::Words(words));
-    }
-    half(record, 2, ("SupplierIDType", "SupplierIDValue"))
-}
-
-// What fields of a record have against each other.
-fn unpaired<'a>(record: &Record<'a>) -> Option<Why<'a>> {
-    match field_at(record, 0) {
-        "Agree" | "Message" => half(record, 4, ("AddresseeIDType", "AddresseeIDValue")),
-        "SupplyDetail" => nameless(record),
-        "Product" if count_of(record) % 2 == 1 => {
-            Some(Why::Words("a ProductIDType without an IDValue behind it"))
+    let before = form.field(place.saturating_sub(1));
+    let before = before.map_or("", |field| field.name);
+    let (empty, there) = if value.is_empty() {
+        (name, before)
+    } else {
+        (before, name)
+    };
+    match field.kind {
+        Kind::Value => {
+            write!(
+                text,
+                "{empty} is empty, and {there} is not; fill both, or neither"
+            )
         }
-        _ => None,
+        Kind::SupplierName => {
+            text.push_str("the supplier has neither an identifier nor a SupplierName")
+        }
+        Kind::Code | Kind::Currency if value.is_empty() && form.name == "Price" => {
+            write!(
+                text,
+                "{name} is empty, and the Message has no Default{name}"
+            )
+        }
+        _ => push_broken(text, field, value),
     }
 }
 
-// The first field that breaks its rule.
-fn broken<'a>(record: &Record<'a>, form: Form) -> Option<Why<'a>> {
-    for place in 1..record.len() {
-        let field = form.field(place - 1)?;
-        let value = field_at(record, place);
-        if !takes(field, value) {
-            return Some(Why::Broken(field, value));
+// Adds how many fields a record may have, and their names, in brackets those that may be left out.
+fn push_form(text: &mut String, form: Form) -> Result<(), AllocError> {
+    let most = form.fields.len();
+    write!(text, "{}", form.least)?;
+    if form.repeats() {
+        text.push_str(" or more")?;
+    } else if most > form.least {
+        write!(text, " or {most}")?;
+    }
+    write!(text, ": {}", form.name)?;
+    for (place, field) in form.fields.iter().enumerate() {
+        if place < form.least {
+            write!(text, ",{}", field.name)?;
+        } else {
+            write!(text, "[,{}]", field.name)?;
         }
     }
-    None
+    Ok(())
 }
 
-// What is wrong with a record by itself.
-fn wrong<'a>(record: &Record<'a>, has_minimums: bool) -> Option<Why<'a>> {
-    let form = form_of(field_at(record, 0), has_minimums)?;
-    let count = count_of(record);
-    if count < form.least || count > form.most {
-        return Some(Why::Miscounted(form));
+// What the names and the number of the fields of a record leave open.
+fn hint_of_form(form: Form, given: &Record<'_>) -> &'static str {
+    let has_more = given.len() > form.fields.len().saturating_add(1);
+    if form.name == "Waive" {
+        "; the Number is that of a message that is missing and will not come, and onixdesk --db FILE gaps NAME shows which are missing"
+    } else if has_more && field_at(given, given.len().saturating_sub(1)).is_empty() {
+        "; leave out the empty fields at its end, which a spreadsheet adds"
+    } else {
+        ""
     }
-    match broken(record, form) {
-        Some(why) => Some(why),
-        None => unpaired(record),
+}
+
+// Adds that a record has too many fields, or too few, and which it has to have.
+fn push_miscounted(text: &mut String, given: &Record<'_>, form: Form) -> Result<(), AllocError> {
+    let count = given.len().saturating_sub(1);
+    if form.repeats() && count > form.least {
+        return text.push_str("a ProductIDType without an IDValue behind it");
     }
+    let fields = if count == 1 { "field" } else { "fields" };
+    write!(text, "{count} {fields} behind its name, not ")?;
+    push_form(text, form)?;
+    text.push_str(hint_of_form(form, given))
 }
 
-// The name of a record that is written so but for the case of letters and spaces.
-fn alike(name: &str) -> Option<&'static str> {
-    NAMES
-        .into_iter()
-        .find(|known| known.eq_ignore_ascii_case(name.trim()))
+// Adds what is wrong with a record of this form behind the records of a text, and says whether
+// something is.
+fn push_wrong(
+    alloc: Global,
+    text: &mut String,
+    before: &str,
+    form: Form,
+    given: &Record<'_>,
+) -> Result<bool, AllocError> {
+    if given.len() > MOST_ASKED {
+        text.push_str("it has too many fields, one of them is wrong, or it is not allowed here")?;
+        return Ok(true);
+    }
+    match place_of(alloc, before, form, given)? {
+        None => return Ok(false),
+        Some(0) => push_miscounted(text, given, form)?,
+        Some(place) => push_refused(text, given, form, place)?,
+    }
+    Ok(true)
 }
 
-// Why a name is none that may stand here, where it shows that; else these words.
-fn misnamed<'a>(name: &str, words: &'static str) -> Why<'a> {
+// Adds why a name is none that may stand here, where it shows that; else these words.
+fn push_misnamed(text: &mut String, name: &str, words: &str) -> Result<(), AllocError> {
     if name.starts_with('<') {
-        return Why::Words(
+        return text.push_str(
             "this is XML; make records of it first: onixdesk convert FILE > FILE.csv",
         );
     }
     if let Some((front, _)) = name.split_once(';') {
         if alike(front).is_some() {
-            return Why::Words("separate fields by commas, not by semicolons");
+            return text.push_str("separate fields by commas, not by semicolons");
         }
     }
     match alike(name) {
-        Some(known) => Why::Misspelt(known),
-        None => Why::Words(words),
+        Some(known) => write!(text, "write {known}"),
+        None => text.push_str(words),
     }
 }
 
-// Why a record of this name may not stand behind one of that name; none where it may.
+// Why a record of this name may not stand behind one of that name, where it may not.
 fn misplaced(name: &str, before: &str) -> Option<&'static str> {
     let is_priced = before == "SupplyDetail" || before == "Price";
     match name {
@@ -176,189 +216,105 @@ fn misplaced(name: &str, before: &str) -> Option<&'static str> {
     }
 }
 
-// What a Price lacks that its Message has no default for.
-fn undefaulted(header: &Record<'_>, record: &Record<'_>) -> &'static str {
-    if field_at(record, 1).is_empty() && field_at(header, DEFAULT_TYPE).is_empty() {
-        "PriceType is empty, and the Message has no DefaultPriceType"
-    } else if field_at(record, 3).is_empty() && field_at(header, DEFAULT_CURRENCY).is_empty() {
-        "CurrencyCode is empty, and the Message has no DefaultCurrencyCode"
-    } else {
-        NOT_ALLOWED
+// Right records that lead from the header of a message to a record of this name.
+fn leading(name: &str) -> &'static str {
+    match name {
+        "ProductSupply" => "Product,a,03,15,9781234567897",
+        "SupplyDetail" => "Product,a,03,15,9781234567897\nProductSupply,,,",
+        "Price" => "Product,a,03,15,9781234567897\nProductSupply,,,\nSupplyDetail,04,,,a,21,",
+        _ => "",
     }
 }
 
-// Why a record of a message is wrong, which has that header, and this record before it.
-fn why_in_message<'a>(
-    header: &Record<'a>,
-    before: &Record<'a>,
-    record: &Record<'a>,
+// Adds why the record at an index of a message is wrong.
+fn push_part(
+    alloc: Global,
+    text: &mut String,
+    piece: &Records<'_>,
     index: usize,
-) -> Why<'a> {
-    let name = field_at(record, 0);
-    if index >= MOST_RECORDS {
-        return Why::Words("a message has at most 20000 records");
-    }
-    if !is_of_message(name) {
-        return misnamed(name, "no record of a message has this name");
-    }
-    if let Some(why) = wrong(record, field_at(header, 1) == "2") {
-        return why;
-    }
-    if let Some(words) = misplaced(name, field_at(before, 0)) {
-        return Why::Words(words);
-    }
-    if name == "EndMessage" {
-        return Why::Records(field_at(record, 1), index);
-    }
-    Why::Words(undefaulted(header, record))
-}
-
-// Why the first record of a piece is wrong.
-fn why_first<'a>(record: &Record<'a>) -> Why<'a> {
-    let name = field_at(record, 0);
-    if is_of_message(name) && name != "Message" {
-        return Why::Words("it belongs into a message, behind its Message");
-    }
-    if form_of(name, true).is_none() {
-        return misnamed(
-            name,
-            "no request has this name; a text of requests has no heading",
-        );
-    }
-    match wrong(record, true) {
-        Some(why) => why,
-        None if name == "Message" => Why::Words(NOT_ALLOWED),
-        None => Why::Words(
-            "deliver takes one message; batch takes a text of requests: onixdesk --db FILE batch < FILE",
-        ),
-    }
-}
-
-// Why the record at an index of a piece is wrong.
-fn why_at<'a>(piece: &Records<'a>, index: usize) -> Why<'a>
-    requires { index < length piece.now }
+) -> Result<(), AllocError>
+    requires { (0 < index) × (index < length piece.now) }
 {
-    let record = piece.record(index);
-    if let Some(why) = unclean(&record) {
-        return why;
+    let given = piece.record(index);
+    let name = field_at(&given, 0);
+    if index >= MOST_RECORDS {
+        return text.push_str("a message has at most 20000 records");
     }
-    if index == 0 {
-        return why_first(&record);
+    let form = match form_of(name) {
+        Some(form) if is_of_message(name) => form.in_form(field_at(&piece.record(0), 1)),
+        _ => return push_misnamed(text, name, "no record of a message has this name"),
+    };
+    let count = field_at(&given, 1);
+    let is_end = name == "EndMessage" && given.len() == 2 && read_digits(count).is_some();
+    let mut before = write_records(alloc, &piece.part(0, 1))?;
+    before.push_str(leading(name))?;
+    if !is_end && push_wrong(alloc, text, before.as_str(), form, &given)? {
+        return Ok(());
     }
-    let header = piece.record(0);
-    if field_at(&header, 0) == "Message" {
-        return why_in_message(&header, &piece.record(index - 1), &record, index);
-    }
-    misnamed(
-        field_at(&record, 0),
-        "the request before it is one record, and no request has this name",
-    )
-}
-
-// Adds what stands in a field.
-fn push_value(text: &mut String, name: &str, value: &str) -> Result<(), AllocError> {
-    text.push_str(name)?;
-    text.push_str(" ")?;
-    push_shown(text, value, SHOWN)
-}
-
-/// Adds that a field breaks its rule.
-pub(crate) fn push_broken(text: &mut String, field: Field, value: &str) -> Result<(), AllocError> {
-    if value.is_empty() {
-        return write!(
-            text,
-            "{} is empty; it has to be {}",
-            field.name,
-            rule(field.kind)
-        );
-    }
-    push_value(text, field.name, value)?;
-    text.push_str(" is not ")?;
-    text.push_str(rule(field.kind))?;
-    text.push_str(hint(field.kind, value))
-}
-
-// Adds how many fields a record may have, and their names, in brackets those that may be left out.
-fn push_form(text: &mut String, name: &str, form: Form) -> Result<(), AllocError> {
-    write!(text, "{}", form.least)?;
-    if form.most == usize::MAX {
-        text.push_str(" or more")?;
-    } else if form.most > form.least {
-        write!(text, " or {}", form.most)?;
-    }
-    write!(text, ": {name}")?;
-    for (place, field) in form.fields.iter().take(form.most).enumerate() {
-        if place < form.least {
-            write!(text, ",{}", field.name)?;
-        } else {
-            write!(text, "[,{}]", field.name)?;
-        }
-    }
-    Ok(())
-}
-
-// What the names of the fields of a record leave open.
-fn hint_of_form(name: &str) -> &'static str {
-    if name == "Waive" {
-        "; the Number is that of a message that is missing and will not come, and onixdesk --db FILE gaps NAME shows which are missing"
-    } else {
-        ""
-    }
-}
-
-// Adds that a record has too many fields, or too few, and which it has to have.
-fn push_miscounted(text: &mut String, record: &Record<'_>, form: Form) -> Result<(), AllocError> {
-    let name = field_at(record, 0);
-    let count = count_of(record);
-    let fields = if count == 1 { "field" } else { "fields" };
-    write!(text, "{count} {fields} behind its name, not ")?;
-    push_form(text, name, form)?;
-    text.push_str(hint_of_form(name))?;
-    let has_empty = count.saturating_sub(count_empty(record)) <= form.most;
-    if count > form.most && has_empty {
-        text.push_str("; leave out the empty fields at its end, which a spreadsheet adds")
-    } else {
-        Ok(())
-    }
-}
-
-// Adds why a record is wrong.
-fn push_why(text: &mut String, record: &Record<'_>, why: Why<'_>) -> Result<(), AllocError> {
-    match why {
-        Why::Words(words) => text.push_str(words),
-        Why::Broken(field, value) => push_broken(text, field, value),
-        Why::Unclean(value) => {
-            push_value(text, "a field", value)?;
-            text.push_str(" has more than 1024 bytes or a control character")
-        }
-        Why::Miscounted(form) => push_miscounted(text, record, form),
-        Why::Half(empty, there) => {
-            write!(
-                text,
-                "{empty} is empty, and {there} is not; fill both, or neither"
-            )
-        }
-        Why::Misspelt(known) => write!(text, "write {known}"),
-        Why::Records(count, index) => write!(
+    match misplaced(name, field_at(&piece.record(index - 1), 0)) {
+        Some(words) => text.push_str(words),
+        None if is_end => write!(
             text,
             "Count {count} is not the number of records before it, which is {index}: a record is missing or one too many; take the file from its sender again, and do not just change Count"
         ),
+        None => text.push_str("it is not allowed here"),
     }
+}
+
+// Adds why the first record of a piece is wrong.
+fn push_first(alloc: Global, text: &mut String, given: &Record<'_>) -> Result<(), AllocError> {
+    let name = field_at(given, 0);
+    if is_of_message(name) && name != "Message" {
+        return text.push_str("it belongs into a message, behind its Message");
+    }
+    let Some(form) = form_of(name) else {
+        let words = "no request has this name; a text of requests has no heading";
+        return push_misnamed(text, name, words);
+    };
+    if push_wrong(alloc, text, "", form, given)? {
+        return Ok(());
+    }
+    text.push_str(
+        "deliver takes one message; batch takes a text of requests: onixdesk --db FILE batch < FILE",
+    )
+}
+
+// Adds why the record at an index of a piece is wrong.
+fn push_at(
+    alloc: Global,
+    text: &mut String,
+    piece: &Records<'_>,
+    index: usize,
+) -> Result<(), AllocError>
+    requires { index < length piece.now }
+{
+    let given = piece.record(index);
+    push_value(text, "", field_at(&given, 0))?;
+    text.push_str(": ")?;
+    if index == 0 {
+        return push_first(alloc, text, &given);
+    }
+    if field_at(&piece.record(0), 0) == "Message" {
+        return push_part(alloc, text, piece, index);
+    }
+    push_misnamed(
+        text,
+        field_at(&given, 0),
+        "the request before it is one record, and no request has this name",
+    )
 }
 
 /// Adds why a piece stops being a request at this row, counted from 1, where its records end at the
 /// latest.
 pub(crate) fn push_cause(
+    alloc: Global,
     text: &mut String,
     piece: &Records<'_>,
     row: u32,
 ) -> Result<(), AllocError> {
     let index = (row as usize).saturating_sub(1);
     if index < piece.len() {
-        let record = piece.record(index);
-        push_value(text, "", field_at(&record, 0))?;
-        text.push_str(": ")?;
-        push_why(text, &record, why_at(piece, index))
+        push_at(alloc, text, piece, index)
     } else if piece.is_empty() {
         text.push_str(" there is no record")
     } else {

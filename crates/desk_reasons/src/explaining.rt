@@ -3,9 +3,8 @@
 use crate::causes::push_cause;
 use crate::lines::RecordLines;
 use crate::questions::push_question;
+use crate::refused::row_of_message;
 use csv_records::buffer::RecordBuffer;
-use csv_records::records::Records;
-use onix_message::message::{MessageFault, read_message};
 use series_rules::answers::{Answer, DeliveryAnswer};
 use series_rules::requests::Request;
 use std::alloc::{AllocError, Global};
@@ -95,18 +94,9 @@ fn push_query(alloc: Global, text: &mut String, target: &str) -> Result<(), Allo
 // What is said of the piece of these records.
 fn kept_of(alloc: Global, piece: &RecordBuffer, row: u32) -> Result<Kept, AllocError> {
     let mut cause = String::new(alloc);
-    push_cause(&mut cause, &piece.as_records(), row)?;
+    push_cause(alloc, &mut cause, &piece.as_records(), row)?;
     let count = piece.len();
     Ok(Kept { cause, row, count })
-}
-
-// The row at which records stop being a message; none where they are one.
-fn row_of_message(alloc: Global, records: &Records<'_>) -> Result<Option<u32>, AllocError> {
-    match read_message(alloc, records) {
-        Ok(_) => Ok(None),
-        Err(MessageFault::Malformed { row }) => Ok(Some(row)),
-        Err(MessageFault::Memory) => Err(AllocError),
-    }
 }
 
 /// The lines on malformed requests, each made while its records are in hand, as far as there is room

@@ -1,13 +1,4 @@
-//! What the fields of a record have to be.
-
-use onix_terms::amount::Amount;
-use onix_terms::code::{Code2, Country, Currency};
-use onix_terms::day::Day;
-use onix_terms::digits::read_digits;
-use onix_terms::isbn13::Isbn13;
-use onix_terms::number::Number;
-use onix_terms::quantity::Quantity;
-use onix_terms::series_name::SeriesName;
+//! What the fields of a record have to be, in words.
 
 /// What a field holds.
 #[derive(Clone, Copy, PartialEq, Eq)]
@@ -16,6 +7,11 @@ pub(crate) enum Kind {
     Code,
     Filled,
     Anything,
+    // The type of an identifier, and its value behind it, which are both empty where there is none.
+    Type,
+    Value,
+    // Where it is empty, the identifier before it is not.
+    SupplierName,
     Number,
     FirstNumber,
     Digits,
@@ -35,66 +31,29 @@ pub(crate) enum Kind {
 pub(crate) struct Field {
     pub(crate) name: &'static str,
     pub(crate) kind: Kind,
-    pub(crate) may_be_empty: bool,
 }
 
-// Whether there is a word between spaces, and each is a country.
-fn are_countries(text: &str) -> bool {
-    let has_word = text.split(' ').any(|word| !word.is_empty());
-    has_word
-        && text
-            .split(' ')
-            .all(|word| word.is_empty() || Country::read(word).is_some())
-}
-
-// Whether a text is one of that kind.
-fn is_right(kind: Kind, text: &str) -> bool {
+/// A text that a field of that kind may have, and what its text has to be.
+pub(crate) fn rule(kind: Kind) -> (&'static str, &'static str) {
     match kind {
-        Kind::Series => SeriesName::read(text).is_some(),
-        Kind::Code => Code2::read(text).is_some(),
-        Kind::Filled => !text.is_empty(),
-        Kind::Anything => true,
-        Kind::Number | Kind::FirstNumber => Number::read(text).is_some(),
-        Kind::Digits => read_digits(text).is_some(),
-        Kind::Isbn => Isbn13::read(text).is_some(),
-        Kind::Day => Day::read(text).is_some(),
-        Kind::Country => Country::read(text).is_some(),
-        Kind::Currency => Currency::read(text).is_some(),
-        Kind::Quantity => Quantity::read(text).is_some(),
-        Kind::Amount => Amount::read(text).is_some(),
-        Kind::Countries => are_countries(text),
-        Kind::World => text == "WORLD",
-        Kind::Form => text == "1" || text == "2",
-    }
-}
-
-/// Whether a field may hold this text.
-pub(crate) fn takes(field: Field, text: &str) -> bool {
-    if text.is_empty() && field.kind != Kind::Filled {
-        field.may_be_empty || field.kind == Kind::Anything
-    } else {
-        is_right(field.kind, text)
-    }
-}
-
-/// What a field of that kind has to be.
-pub(crate) fn rule(kind: Kind) -> &'static str {
-    match kind {
-        Kind::Series => "1 to 32 characters of a to z, 0 to 9 and -",
-        Kind::Code => "two digits",
-        Kind::Filled => "a text that is not empty",
-        Kind::Anything => "a text",
-        Kind::Number | Kind::FirstNumber => "a number of 1 or more, in at most 9 digits",
-        Kind::Digits => "1 to 9 digits",
-        Kind::Isbn => "thirteen digits",
-        Kind::Day => "a day of the calendar, YYYYMMDD",
-        Kind::Country => "two capital letters",
-        Kind::Currency => "three capital letters",
-        Kind::Quantity => "a number of 1 or more, in at most 6 digits",
-        Kind::Amount => "1 to 9 digits, and at most 3 behind a point",
-        Kind::Countries => "countries of two capital letters with spaces between them",
-        Kind::World => "WORLD or empty",
-        Kind::Form => "1 or 2",
+        Kind::Series => ("a", "1 to 32 characters of a to z, 0 to 9 and -"),
+        Kind::Code | Kind::Type => ("02", "two digits"),
+        Kind::Filled => ("a", "a text that is not empty"),
+        Kind::Anything | Kind::Value | Kind::SupplierName => ("a", "a text"),
+        Kind::Number | Kind::FirstNumber => ("1", "a number of 1 or more, in at most 9 digits"),
+        Kind::Digits => ("1", "1 to 9 digits"),
+        Kind::Isbn => ("9781234567897", "thirteen digits"),
+        Kind::Day => ("20250301", "a day of the calendar, YYYYMMDD"),
+        Kind::Country => ("GB", "two capital letters"),
+        Kind::Currency => ("GBP", "three capital letters"),
+        Kind::Quantity => ("1", "a number of 1 or more, in at most 6 digits"),
+        Kind::Amount => ("1", "1 to 9 digits, and at most 3 behind a point"),
+        Kind::Countries => (
+            "",
+            "countries of two capital letters with spaces between them",
+        ),
+        Kind::World => ("", "WORLD or empty"),
+        Kind::Form => ("1", "1 or 2"),
     }
 }
 
@@ -124,8 +83,8 @@ pub(crate) fn hint(kind: Kind, text: &str) -> &'static str {
             "; write capital letters"
         }
         Kind::Countries if text.contains([',', ';']) => "; put spaces between them",
-        Kind::Code if text == "GLN" => "; the code of a GLN is 06",
-        Kind::Code if digits == 1 && text.len() == 1 => {
+        Kind::Code | Kind::Type if text == "GLN" => "; the code of a GLN is 06",
+        Kind::Code | Kind::Type if digits == 1 && text.len() == 1 => {
             "; a spreadsheet may have taken the 0 at its front"
         }
         Kind::Amount if text.contains(',') => "; write a point, and no comma",

@@ -2,30 +2,15 @@
 
 use memchr::{memchr, memchr2};
 
-// Where the reading of a record stands, as RFC 4180 has it.
-#[derive(Clone, Copy, PartialEq, Eq)]
-enum Place {
-    // Before a record, or on an empty line.
-    Between,
-    // At the beginning of a field.
-    FieldStart,
-    // In a field without quotation marks, or behind the mark that closes one.
-    Plain,
-    // Between quotation marks.
-    Quoted,
-    // Behind a quotation mark between quotation marks, which closes the field or is doubled.
-    MaybeClosed,
-}
-
-// Where the reading stands behind a byte that ends no record.
-fn next_place(place: Place, byte: u8) -> Place {
-    match place {
-        Place::Quoted if byte == b'"' => Place::MaybeClosed,
-        Place::Quoted => Place::Quoted,
-        Place::Plain if byte == b'"' => Place::Plain,
-        _ if byte == b'"' => Place::Quoted,
-        _ if byte == b',' => Place::FieldStart,
-        _ => Place::Plain,
+// Whether a byte stands between quotation marks, and whether a mark in its place would open them:
+// at the beginning of a field, and behind the mark that closes them, where it is doubled. The same
+// behind a byte that ends no record.
+fn next_place(place: (bool, bool), byte: u8) -> (bool, bool) {
+    let (is_quoted, may_open) = place;
+    match byte {
+        b'"' if is_quoted => (false, true),
+        b'"' => (may_open, false),
+        _ => (is_quoted, byte == b','),
     }
 }
 
@@ -89,7 +74,8 @@ impl<'a> RecordLines<'a> {
             return line;
         }
         let rest = self.text.get(self.at..).unwrap_or(&[]);
-        let mut place = Place::Between;
+        let mut place = (false, true);
+        let mut has_begun = false;
         let mut begun = self.line;
         for byte in rest {
             self.at = self.at.saturating_add(1);
@@ -98,12 +84,13 @@ impl<'a> RecordLines<'a> {
             if ends_line {
                 self.line = self.line.saturating_add(1);
             }
-            if ends_record && place != Place::Quoted {
-                if place != Place::Between {
+            if ends_record && !place.0 {
+                if has_begun {
                     return begun;
                 }
                 begun = self.line;
             } else {
+                has_begun = true;
                 place = next_place(place, *byte);
             }
         }

@@ -1,8 +1,9 @@
 //! Why a question over HTTP is a bad query, in words.
 
-use crate::causes::push_broken;
-use crate::fields::{Field, Kind, takes};
-use crate::rows::keys_of;
+use crate::causes::{place_of, push_broken};
+use crate::fields::Field;
+use crate::rows::{Form, form_of, key_of};
+use csv_records::fields::FieldBuffer;
 use form_urlencoded::parse;
 use std::alloc::{AllocError, Global};
 use std::borrow::CowStr;
@@ -25,53 +26,36 @@ fn pairs_of<'q>(
     Ok(pairs)
 }
 
-// Adds what is wrong with a key that comes so often, the first time with this value, and says
-// whether something is.
-fn push_wrong(
+// Adds the values of the keys of a question to its request, and says whether each is given once. If
+// one is not, this is told.
+fn fill(
     text: &mut String,
-    key: Field,
-    count: usize,
-    value: &str,
-) -> Result<bool, AllocError> {
-    let given = Field {
-        may_be_empty: false,
-        ..key
-    };
-    if count > 1 {
-        write!(text, "{} is given {count} times", key.name)?;
-        Ok(true)
-    } else if count == 0 && !key.may_be_empty {
-        write!(text, "{} is missing", key.name)?;
-        Ok(true)
-    } else if count == 1 && !takes(given, value) {
-        push_broken(text, given, value)?;
-        Ok(true)
-    } else {
-        Ok(false)
-    }
-}
-
-// The same of a key among the pairs of a query.
-fn push_key(
-    text: &mut String,
-    key: Field,
+    request: &mut FieldBuffer,
+    form: Form,
     pairs: &[(CowStr<'_>, CowStr<'_>)],
 ) -> Result<bool, AllocError> {
-    let mut count = 0usize;
-    let mut found = "";
-    for (name, value) in pairs {
-        if name.as_str() == key.name {
-            count = count.saturating_add(1);
-            if count == 1 {
-                found = value.as_str();
+    for field in form.fields.iter().skip(1) {
+        let key = key_of(field.name);
+        let given = pairs.iter().filter(|pair| pair.0.as_str() == key);
+        let count = given.count();
+        if count > 1 {
+            write!(text, "{key} is given {count} times")?;
+            return Ok(false);
+        }
+        match pairs.iter().find(|pair| pair.0.as_str() == key) {
+            Some((_, value)) => request.push(value.as_str())?,
+            None if key == "quantity" => {}
+            None => {
+                write!(text, "{key} is missing")?;
+                return Ok(false);
             }
         }
     }
-    push_wrong(text, key, count, found)
+    Ok(true)
 }
 
-/// Adds what is wrong first with the question at a target, whose query is bad, and says whether
-/// something is.
+/// Adds what is wrong with the question at a target, whose query is bad, and says whether something
+/// is. The desk is asked a request with the same values.
 pub(crate) fn push_question(
     alloc: Global,
     text: &mut String,
@@ -79,20 +63,29 @@ pub(crate) fn push_question(
 ) -> Result<bool, AllocError> {
     let (path, query) = target.split_once('?').unwrap_or((target, ""));
     let (article, question) = question_in(path);
-    let isbn = Field {
-        name: "the article",
-        kind: Kind::Isbn,
-        may_be_empty: false,
+    let name = if question == "calendar" {
+        "AskCalendar"
+    } else {
+        "AskPrice"
     };
-    if !takes(isbn, article) {
-        push_broken(text, isbn, article)?;
+    let Some(form) = form_of(name) else {
+        return Ok(false);
+    };
+    let pairs = pairs_of(alloc, query)?;
+    let mut request = FieldBuffer::new(alloc);
+    request.push(name)?;
+    request.push(article)?;
+    if !fill(text, &mut request, form, pairs.as_slice())? {
         return Ok(true);
     }
-    let pairs = pairs_of(alloc, query)?;
-    for key in keys_of(question) {
-        if push_key(text, *key, pairs.as_slice())? {
-            return Ok(true);
-        }
-    }
-    Ok(false)
+    let request = request.as_record();
+    let Some(place) = place_of(alloc, "", form, &request)? else {
+        return Ok(false);
+    };
+    let (Some(field), Some(value)) = (form.field(place), request.get(place)) else {
+        return Ok(false);
+    };
+    let name = key_of(field.name);
+    push_broken(text, Field { name, ..field }, value)?;
+    Ok(true)
 }

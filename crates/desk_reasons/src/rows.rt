@@ -1,144 +1,107 @@
-//! The records of requests and of messages, and the keys of queries: the names of their fields, and
-//! what each has to be.
+//! The records of requests and of messages: the names of their fields, and what each has to be.
 
 use crate::fields::{Field, Kind};
 
-// Whether a field may be empty.
-const NEEDED: bool = false;
-
-const OPTIONAL: bool = true;
-
-// Fields, each by its name, what it has to be, and whether it may be empty.
-macro_rules! fields {
-    ($($name:literal: $kind:ident $may_be_empty:ident),* $(,)?) => {
-        [$(Field { name: $name, kind: Kind::$kind, may_be_empty: $may_be_empty }),*]
-    };
-}
-
-static AGREE: [Field; 6] = fields! {
-    "Series": Series NEEDED, "SenderIDType": Code NEEDED, "SenderIDValue": Filled NEEDED,
-    "AddresseeIDType": Code OPTIONAL, "AddresseeIDValue": Anything OPTIONAL,
-    "FirstNumber": FirstNumber NEEDED,
-};
-
-static WAIVE: [Field; 2] = fields! { "Series": Series NEEDED, "Number": Number NEEDED };
-
-static SERIES: [Field; 1] = fields! { "Series": Series NEEDED };
-
-static PRICE_QUESTION: [Field; 6] = fields! {
-    "Article": Isbn NEEDED, "Day": Day NEEDED, "Country": Country NEEDED,
-    "Currency": Currency NEEDED, "PriceType": Code NEEDED, "Quantity": Quantity NEEDED,
-};
-
-static CALENDAR_QUESTION: [Field; 7] = fields! {
-    "Article": Isbn NEEDED, "FirstDay": Day NEEDED, "LastDay": Day NEEDED,
-    "Country": Country NEEDED, "Currency": Currency NEEDED, "PriceType": Code NEEDED,
-    "Quantity": Quantity NEEDED,
-};
-
-static PRICE_QUERY: [Field; 5] = fields! {
-    "day": Day NEEDED, "country": Country NEEDED, "currency": Currency NEEDED,
-    "type": Code NEEDED, "quantity": Quantity OPTIONAL,
-};
-
-static CALENDAR_QUERY: [Field; 6] = fields! {
-    "from": Day NEEDED, "country": Country NEEDED, "currency": Currency NEEDED,
-    "type": Code NEEDED, "quantity": Quantity OPTIONAL, "to": Day NEEDED,
-};
-
-static MESSAGE: [Field; 10] = fields! {
-    "Form": Form NEEDED, "SenderIDType": Code NEEDED, "SenderIDValue": Filled NEEDED,
-    "AddresseeIDType": Code OPTIONAL, "AddresseeIDValue": Anything OPTIONAL,
-    "MessageNumber": Number OPTIONAL, "MessageRepeat": Digits OPTIONAL,
-    "SentDateTime": Anything OPTIONAL, "DefaultPriceType": Code OPTIONAL,
-    "DefaultCurrencyCode": Currency OPTIONAL,
-};
-
-static PRODUCT: [Field; 4] = fields! {
-    "RecordReference": Filled NEEDED, "NotificationType": Code NEEDED,
-    "ProductIDType": Code NEEDED, "IDValue": Filled NEEDED,
-};
-
-static SUPPLY: [Field; 3] = fields! {
-    "CountriesIncluded": Countries OPTIONAL, "RegionsIncluded": World OPTIONAL,
-    "CountriesExcluded": Countries OPTIONAL,
-};
-
-static DETAIL: [Field; 6] = fields! {
-    "SupplierRole": Code NEEDED, "SupplierIDType": Code OPTIONAL,
-    "SupplierIDValue": Anything OPTIONAL, "SupplierName": Anything OPTIONAL,
-    "ProductAvailability": Code NEEDED, "UnpricedItemType": Code OPTIONAL,
-};
-
-static PRICE: [Field; 9] = fields! {
-    "PriceType": Code OPTIONAL, "PriceAmount": Amount NEEDED, "CurrencyCode": Currency OPTIONAL,
-    "CountriesIncluded": Countries OPTIONAL, "RegionsIncluded": World OPTIONAL,
-    "CountriesExcluded": Countries OPTIONAL, "From": Day OPTIONAL, "Until": Day OPTIONAL,
-    "MinimumOrderQuantity": Quantity OPTIONAL,
-};
-
-static END: [Field; 1] = fields! { "Count": Digits NEEDED };
-
-/// The names of all records.
-pub(crate) const NAMES: [&str; 13] = [
-    "Agree",
-    "Message",
-    "Waive",
-    "AskPrice",
-    "AskChoice",
-    "AskCalendar",
-    "AskGaps",
-    "AskCatalogue",
-    "Product",
-    "ProductSupply",
-    "SupplyDetail",
-    "Price",
-    "EndMessage",
-];
-
-/// What a record of a name has behind it: fields in order, of which the first so many have to be
-/// there. In form 1 a Price has no MinimumOrderQuantity; a Product may have the last two of its
-/// fields again and again.
+/// What records of a name have behind it: fields in order, of which the first so many have to be
+/// there.
 #[derive(Clone, Copy)]
 pub(crate) struct Form {
-    pub(crate) fields: &'static [Field],
+    pub(crate) name: &'static str,
     pub(crate) least: usize,
-    pub(crate) most: usize,
+    pub(crate) fields: &'static [Field],
 }
 
+// A form: its name, how many fields have to be there, and the fields, each by its name and what it
+// has to be.
+macro_rules! form {
+    ($form:literal $least:literal, $($name:literal: $kind:ident),* $(,)?) => {
+        Form {
+            name: $form,
+            least: $least,
+            fields: &[$(Field { name: $name, kind: Kind::$kind }),*],
+        }
+    };
+}
+
+// The forms of all records.
+static FORMS: [Form; 13] = [
+    form! {
+        "Agree" 6, "Series": Series, "SenderIDType": Code, "SenderIDValue": Filled,
+        "AddresseeIDType": Type, "AddresseeIDValue": Value, "FirstNumber": FirstNumber,
+    },
+    form! { "Waive" 2, "Series": Series, "Number": Number },
+    form! {
+        "AskPrice" 5, "Article": Isbn, "Day": Day, "Country": Country, "Currency": Currency,
+        "PriceType": Code, "Quantity": Quantity,
+    },
+    form! {
+        "AskChoice" 5, "Article": Isbn, "Day": Day, "Country": Country, "Currency": Currency,
+        "PriceType": Code, "Quantity": Quantity,
+    },
+    form! {
+        "AskCalendar" 6, "Article": Isbn, "FirstDay": Day, "LastDay": Day, "Country": Country,
+        "Currency": Currency, "PriceType": Code, "Quantity": Quantity,
+    },
+    form! { "AskGaps" 1, "Series": Series },
+    form! { "AskCatalogue" 1, "Series": Series },
+    form! {
+        "Message" 10, "Form": Form, "SenderIDType": Code, "SenderIDValue": Filled,
+        "AddresseeIDType": Type, "AddresseeIDValue": Value, "MessageNumber": Number,
+        "MessageRepeat": Digits, "SentDateTime": Anything, "DefaultPriceType": Code,
+        "DefaultCurrencyCode": Currency,
+    },
+    form! {
+        "Product" 4, "RecordReference": Filled, "NotificationType": Code, "ProductIDType": Code,
+        "IDValue": Filled,
+    },
+    form! {
+        "ProductSupply" 3, "CountriesIncluded": Countries, "RegionsIncluded": World,
+        "CountriesExcluded": Countries,
+    },
+    form! {
+        "SupplyDetail" 6, "SupplierRole": Code, "SupplierIDType": Type, "SupplierIDValue": Value,
+        "SupplierName": SupplierName, "ProductAvailability": Code, "UnpricedItemType": Code,
+    },
+    form! {
+        "Price" 8, "PriceType": Code, "PriceAmount": Amount, "CurrencyCode": Currency,
+        "CountriesIncluded": Countries, "RegionsIncluded": World, "CountriesExcluded": Countries,
+        "From": Day, "Until": Day, "MinimumOrderQuantity": Quantity,
+    },
+    form! { "EndMessage" 1, "Count": Digits },
+];
+
 /// The form of the records of a name; none where no record has it.
-pub(crate) fn form_of(name: &str, has_minimums: bool) -> Option<Form> {
-    let (fields, least) = match name {
-        "Agree" => (&AGREE[..], 6),
-        "Waive" => (&WAIVE[..], 2),
-        "AskPrice" | "AskChoice" => (&PRICE_QUESTION[..], 5),
-        "AskCalendar" => (&CALENDAR_QUESTION[..], 6),
-        "AskGaps" | "AskCatalogue" => (&SERIES[..], 1),
-        "Message" => (&MESSAGE[..], 10),
-        "Product" => (&PRODUCT[..], 4),
-        "ProductSupply" => (&SUPPLY[..], 3),
-        "SupplyDetail" => (&DETAIL[..], 6),
-        "Price" => (&PRICE[..], 8),
-        "EndMessage" => (&END[..], 1),
-        _ => return None,
-    };
-    let most = match name {
-        "Product" => usize::MAX,
-        "Price" if !has_minimums => 8,
-        _ => fields.len(),
-    };
-    Some(Form {
-        fields,
-        least,
-        most,
-    })
+pub(crate) fn form_of(name: &str) -> Option<Form> {
+    FORMS.iter().copied().find(|form| form.name == name)
+}
+
+/// The name of the records that is written so but for the case of letters and spaces.
+pub(crate) fn alike(name: &str) -> Option<&'static str> {
+    FORMS
+        .iter()
+        .map(|form| form.name)
+        .find(|known| known.eq_ignore_ascii_case(name.trim()))
 }
 
 impl Form {
-    /// The field at a place behind the name, of which the first is 0.
+    /// Whether it may have the last two of its fields again and again.
+    pub(crate) fn repeats(&self) -> bool {
+        self.name == "Product"
+    }
+
+    /// The same in a message of this form.
+    pub(crate) fn in_form(self, form: &str) -> Form {
+        match self.fields.get(..self.least) {
+            Some(fields) if self.name == "Price" && form != "2" => Form { fields, ..self },
+            _ => self,
+        }
+    }
+
+    /// The field at a place, which is 0 for the name.
     pub(crate) fn field(&self, place: usize) -> Option<Field> {
-        let count = self.fields.len();
-        let at = if place < count { place } else { 2 + place % 2 };
+        let place = place.checked_sub(1)?;
+        let is_again = place >= self.fields.len();
+        let at = if is_again { 2 + place % 2 } else { place };
         self.fields.get(at).copied()
     }
 }
@@ -151,12 +114,16 @@ pub(crate) fn is_of_message(name: &str) -> bool {
     )
 }
 
-/// The keys of a question over HTTP, in the order in which the desk reads them. Those that may be
-/// missing are the ones that may be empty. None where nothing is asked so.
-pub(crate) fn keys_of(question: &str) -> &'static [Field] {
-    match question {
-        "price" | "choice" => &PRICE_QUERY[..],
-        "calendar" => &CALENDAR_QUERY[..],
-        _ => &[],
+/// What a field of a question is called over HTTP.
+pub(crate) fn key_of(name: &str) -> &'static str {
+    match name {
+        "Article" => "the article",
+        "Day" => "day",
+        "FirstDay" => "from",
+        "LastDay" => "to",
+        "Country" => "country",
+        "Currency" => "currency",
+        "PriceType" => "type",
+        _ => "quantity",
     }
 }

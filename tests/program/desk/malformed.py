@@ -100,15 +100,15 @@ def many_mistakes(room: Room) -> Iterator[Outcome]:
     yield Outcome("delivered: 107 mistakes", room.told("deliver", *["cut.csv"] * (MOST + 7)), wanted)
 
 
+# Each record, as its name and then each field's name and a right text.
+RECORDS = [re.split("[ =]", line) for line in (TESTS / "refusals/records.txt").read_text().splitlines()]
+TEXTS = [",".join([record[0], *record[2::2]]) for record in RECORDS]
 # A right request of each kind and a message in both forms, from which wrong ones are made with these texts.
-REQUESTS = """Agree,north,06,4012345000009,06,5012345678900,1 Waive,north,3 AskGaps,north AskCatalogue,north
-AskPrice,9781234567897,20250301,GB,GBP,02 AskChoice,9781234567897,20250301,GB,GBP,02,5
-AskCalendar,9781234567897,20250301,20250401,GB,GBP,02""".split()
-RECORDS = (
-    "Product,R1,03,15,9781234567897|ProductSupply,GB,,|SupplyDetail,04,06,S,N,21,|Price,02,9.99,GBP,,,,,|EndMessage,5"
-)
-MESSAGES = [f"Message,{form},06,S,,,1,1,,02,GBP|{RECORDS}" for form in (1, 2)] * 6
-TEXTS = "|  |x|06|6|GB|gb|GB IE|GBP|20250229|12;5|WORLD|0|1|North|\t|Price".split("|")
+REQUESTS, MESSAGE = TEXTS[:7], TEXTS[7:]
+MESSAGES = ["|".join(MESSAGE), "|".join(MESSAGE).replace("Message,2", "Message,1").replace(",2|", "|")] * 6
+WRONG_TEXTS = "|  |x|06|6|GB|gb|GB IE|GBP|20250229|12;5|WORLD|0|1|North|\t|Price".split("|")
+# Fields that may have any text.
+ANY = "SenderIDValue AddresseeIDValue SentDateTime SupplierIDValue SupplierName RecordReference IDValue".split()
 SAID = re.compile(r"^onixdesk: (?:-: )?line (.*)$", re.MULTILINE)
 
 
@@ -117,7 +117,7 @@ def fuzzed_request(random: Random) -> str:
     records = [record.split(",") for record in random.choice(REQUESTS + MESSAGES).split("|")]
     record = random.choice(records)
     place = random.randrange(len(record))
-    record[place : place + random.randrange(2)] = random.choices(TEXTS, k=random.randrange(2))
+    record[place : place + random.randrange(2)] = random.choices(WRONG_TEXTS, k=random.randrange(2))
     if random.random() < 0.2:
         records.insert(random.randrange(len(records)), records.pop(random.randrange(len(records))))
     return "".join(",".join(record or ["x"]) + "\n" for record in records)
@@ -133,3 +133,16 @@ def fuzzed(room: Room) -> Iterator[Outcome]:
         yield Outcome(f"fuzzed: the lines, {seed}", len(said), came.output.count(b"refused,malformed,"))
         bare = [line for line in said if line.endswith("it is not allowed here")]
         yield Outcome(f"fuzzed: the reasons, {seed}", (SAID.findall(checked.errors.decode()), bare), (said, []))
+
+
+def first_wrong(room: Room) -> Iterator[Outcome]:
+    """Of a record whose fields are wrong from one on, the first that is wrong is named."""
+    for at, (name, *fields) in enumerate(RECORDS):
+        before, behind = ([], []) if at < 7 else (TEXTS[7:at], TEXTS[at + 1 :])
+        for place in range(0, len(fields), 2):
+            count = (len(fields) - place) // 2
+            wrong = TEXTS[at].rsplit(",", count)[0] + ",?" * count
+            named = [field for field in fields[place::2] if field not in ANY][:1]
+            came = room.told("check", "-", given="\n".join([*before, wrong, *behind, ""]).encode())
+            found = [line.split(": ")[2].split(" ")[0] for line in SAID.findall(came.errors.decode())]
+            yield Outcome(f"first wrong: {name}, {fields[place]}", found, named)

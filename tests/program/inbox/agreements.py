@@ -192,6 +192,14 @@ def tried_again(room: Room) -> Iterator[Outcome]:
     for inbox.series.first in 2, 1:
         inbox.run()
     yield Outcome("both halves", (inbox.states(), price_of(inbox, "R1")), ({"1.xml": "applied"}, "1.000"))
+    inbox = inbox_in(room, "answer")
+    inbox.send("2.xml", feed_of(2, {"R1": "1.00"}))
+    with suppress(Killed):
+        inbox.run(FakeMachine(inbox.disk, inbox.desk, inbox.clock, ("kill", "answered", 3)))
+    yield Outcome("the desk took this, too", [*inbox.series.had], [2])
+    for inbox.series.first in 3, 1:
+        inbox.run()
+    yield Outcome("its answer was lost", inbox.states(), {"2.xml": "held"})
 
 
 def of_another_series(room: Room) -> Iterator[Outcome]:

@@ -228,8 +228,7 @@ def is_below_and_same(inbox: Inbox, row: Row, message: Message, gaps: Gaps) -> b
 
 
 def retry_refused(inbox: Inbox, gaps: Gaps) -> None:
-    """Judges refused files anew: if settings, terms, agreement or program changed, or if the desk now lacks what it had
-    at their numbers, or had no place for."""
+    """Judges refused files anew once what they were judged by changed, or the desk may take their numbers now."""
     ledger = inbox.ledger
     judge_anew(inbox, "state = 'refused' AND basis <> ?", inbox.basis(gaps.first))
     beginnings = "refused,other-contents", "refused,waived", "refused,before-first", "held", "applied"
@@ -237,7 +236,8 @@ def retry_refused(inbox: Inbox, gaps: Gaps) -> None:
     files = "file IN (SELECT id FROM file WHERE state = 'refused' AND why <> ?)"
     where = f"state = 'refused' AND text IS NOT NULL AND ({answers}) AND {files}"
     rows = ledger.messages(where, REASONS["unknown-series"])
-    if lacking := {row.file for row in rows if gaps.lacks(row.number)}:
+    above = {row.file for row in rows if row.answer.startswith("refused,before-first") and row.number >= gaps.first}
+    if lacking := above | {row.file for row in rows if gaps.lacks(row.number)}:
         with ledger.step():
             for file in map(ledger.file, lacking):
                 if ledger.is_final(file):

@@ -12,9 +12,6 @@ from typing import IO, Any
 
 PIECE = 65_536
 
-# A folder that macOS adds to each zip.
-OF_A_MAC = "__MACOSX/"
-
 DAMAGE = (zipfile.BadZipFile, EOFError, zlib.error, lzma.LZMAError, RuntimeError, ValueError, OSError)
 
 
@@ -25,7 +22,9 @@ class Damaged(Exception):
 def entry_of(path: Path) -> IO[bytes]:
     """The one file in a zip, besides folders and what macOS adds."""
     archive = zipfile.ZipFile(path)
-    entries = [entry for entry in archive.infolist() if not entry.is_dir() and not entry.filename.startswith(OF_A_MAC)]
+    entries = [
+        entry for entry in archive.infolist() if not entry.is_dir() and not entry.filename.startswith("__MACOSX/")
+    ]
     if len(entries) != 1:
         raise Damaged(f"it is a zip of {len(entries)} files, not of one")
     return archive.open(entries[0])

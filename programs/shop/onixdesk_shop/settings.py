@@ -18,8 +18,8 @@ OWN, NEXT = "own", "next"
 # Options of the converter that the inbox sets itself.
 RESERVED = re.compile(r"-o.*|--(number|terms)(=.*)?|-h|--help|--?")
 
-# Two names are taken by other files beside SERIES.json.
-is_series = re.compile("(?!(?:rules|titles)$)[a-z0-9-]{1,32}").fullmatch
+# The page's rules are beside SERIES.json.
+is_series = re.compile("(?!rules$)[a-z0-9-]{1,32}").fullmatch
 
 
 @dataclass(frozen=True)

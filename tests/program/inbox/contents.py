@@ -116,6 +116,12 @@ def titles(room: Room) -> Iterator[Outcome]:
     yield Outcome("said", files[f"{isbn_of('R1')[:8]}.json"], {isbn_of("R1"): [said]})
     shutil.rmtree(inbox.places.state / "titles")
     yield Outcome("a lost folder", (inbox.run(), page_files(inbox)), ([], files))
+    inbox.ledger.unlink()
+    with suppress(Killed):
+        inbox.run(FakeMachine(inbox.disk, inbox.desk, inbox.clock, ("kill", "write", 2)))
+    shutil.rmtree(inbox.places.state / "titles/97800")
+    inbox.run()
+    yield Outcome("a lost ledger, and a kill", {*page_files(inbox)}, {*files})
     inbox.send("3.xml", feed_of(3, {"R1": "-"}))
     inbox.send("2.xml", feed_of(2, {"R1": "1.00"}))
     with suppress(Killed):

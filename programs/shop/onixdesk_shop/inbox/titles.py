@@ -26,8 +26,9 @@ def keep(inbox: Inbox) -> None:
     has the last row that they have. All are written where there is none, or the ledger has not come so far."""
     ledger, machine, folder = inbox.ledger, inbox.machine, inbox.places.state / "titles"
     mark = folder / f"{inbox.series}.json"
-    written = machine.read_json(mark) or 0
-    since = written if ledger.value("SELECT count(*) FROM title WHERE id >= ?", written) else 0
+    if not ledger.value("SELECT count(*) FROM title WHERE id >= ?", machine.read_json(mark) or 0):
+        machine.remove(mark)
+    since = machine.read_json(mark) or 0
     for file in ledger.files("NOT titled AND state = 'applied' AND ending <> '.csv'"):
         read(inbox, file)
     if rows := ledger.rows("SELECT isbn, id FROM title WHERE id > ? ORDER BY id", since):

@@ -46,8 +46,8 @@ SendFits text written (Err f) = WritesCame None written
 
 -- how the command can end with this status: the text of the input was sent, and each request in it
 -- has an answer in what came, which was written, with 0, or 1 for a refusal; or a fault ended it,
--- with 3, behind that or before anything was sent. Told: what the input tells of its bytes. Sent: the
--- desk was sent that text, once. Unsent: nothing was sent
+-- with 3, behind that or before anything was sent. Told: what the input tells of its bytes. Sent:
+-- the desk was sent that text, once. Unsent: nothing was sent
 abbrev pub SendEnds : Option (List ℕ) → (List ℕ → Type 0) → Type 0 → (List ℕ → Type 0) → ℕ
     → Type 0
 SendEnds told sent unsent written status =

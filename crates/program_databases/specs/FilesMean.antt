@@ -68,8 +68,8 @@ module _ {K O U D : Type 0} (g : Ghosts D) (held : K → List ℕ → Image)
         ⊎ (((r : Request) × Contains (in_doubt L steps) r × AreOf left (r ∷ with_answered L steps))
         ⊎ ((has_change L steps ≡ false) × AreOf left L))
 
-  -- What is said of the files of a name is said of what these hold, whether a desk is opened in them
-  -- or not.
+  -- What is said of the files of a name is said of what these hold, whether a desk is opened in
+  -- them or not.
   pub record AreTakenRightly : Type 0 where
     -- they are opened only if they may be taken for a desk
     pub opened : (desks : K) (name : List ℕ) (creation : Creation)

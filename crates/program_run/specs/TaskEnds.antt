@@ -12,8 +12,8 @@ use Rattle.program_words.specs.declared.invocation.Task.{Task}
 use Rattle.program_words.specs.declared.invocation.Task.TheVariants as task
 
 -- How a command over a desk can end with this status. Asked: the desk was asked these steps.
--- Written: these bytes were written. Holds: what names hold. Told, left: what the input tells of its
--- bytes, before and behind it
+-- Written: these bytes were written. Holds: what names hold. Told, left: what the input tells of
+-- its bytes, before and behind it
 abbrev pub TaskEnds : (List Step → Type 0) → (List ℕ → Type 0) → Task → Holdings
     → Option (List ℕ) → Option (List ℕ) → ℕ → Type 0
 TaskEnds asked written task.Batch holds told left status =

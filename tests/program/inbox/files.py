@@ -207,7 +207,10 @@ def asked(room: Room) -> Iterator[Outcome]:
     }.items():
         said = inbox.says(lambda each: show.show(each, *words))
         yield Outcome(name, "a.xml" in said and "b.xml" not in said, True)
-    yield Outcome("report", "next: 3" in inbox.says(report.report), True)
+    inbox.take("c.csv", message_of(3, [[["Product", "R1", "04", "15", isbn_of("R1")]]]))
+    said = inbox.says(lambda each: show.show(each, None, isbn_of("R1"), None))
+    yield Outcome("the price's message", ("\n  3: Product," in said, "\n  1: Price," in said), (True, True))
+    yield Outcome("report", "next: 4" in inbox.says(report.report), True)
     room.path("fetch").mkdir()
     for value in ("no", "yes"):
         room.write("fetch/north.env", f"FROM=north:\nUNVERIFIED={value}\n".encode())

@@ -39,9 +39,7 @@ def of_file(inbox: Inbox, file: File) -> list[str]:
     for row in inbox.ledger.messages_of(file):
         lines.append(f"  number {row.number}: {'; '.join(filter(None, [row.state, cut(row.answer)]))}")
     query = "SELECT at, what FROM decision WHERE file = ? AND what <> 'told' ORDER BY id"
-    for at, what in inbox.ledger.rows(query, file.id):
-        lines.append(f"  {moment(at)}: {what}")
-    return lines
+    return [*lines, *(f"  {moment(at)}: {what}" for at, what in inbox.ledger.rows(query, file.id))]
 
 
 def of_number(inbox: Inbox, number: int) -> list[str]:
@@ -52,14 +50,15 @@ def of_number(inbox: Inbox, number: int) -> list[str]:
 
 
 def of_isbn(inbox: Inbox, isbn: str) -> list[str]:
-    """The records with that ISBN, the message that named each last, and what it says."""
+    """The records with that ISBN, and what the messages say that named them last, down to the last that changed them."""
     query = "SELECT reference, number, deleted FROM reference WHERE ' ' || isbns || ' ' LIKE '% ' || ? || ' %'"
     lines = []
     for reference, number, deleted in inbox.ledger.rows(f"{query} ORDER BY number", isbn):
         lines.append(f"{token(reference)}: {'deleted' if deleted else 'named last'} by number {number}")
-        row = inbox.ledger.row(number)
-        if row and row.has_text:
-            products = [each for each in products_of(inbox.ledger.text(number)) if each.reference == reference]
-            lines += [f"  {cut(line)}" for each in products for line in text_of(each.records).splitlines()]
+        for row in reversed(inbox.ledger.messages("state = 'applied' AND text IS NOT NULL AND number <= ?", number)):
+            products = [each for each in products_of(inbox.ledger.text(row.number)) if each.reference == reference]
+            lines += [f"  {row.number}: {cut(line)}" for one in products for line in text_of(one.records).splitlines()]
+            if any(each.is_block or each.is_deletion or each.has_supply for each in products):
+                break
         lines += of_number(inbox, number)
     return lines

@@ -4,8 +4,9 @@ import argparse
 import json
 import os
 import shutil
+import sqlite3
 from collections.abc import Iterator
-from contextlib import suppress
+from contextlib import closing, suppress
 from dataclasses import replace
 from functools import partial
 from pathlib import Path
@@ -225,6 +226,21 @@ def ledgers(room: Room) -> Iterator[Outcome]:
     shop.inbox.run()
     run(shop, copy, gaps=True)
     yield Outcome("where one has no file", [*shop.inbox.states()], ["1.xml"])
+
+
+def log_of_a_lost_ledger(room: Room) -> Iterator[Outcome]:
+    """A ledger was moved away after a power loss, and its log stayed: nothing of that gets into the copy's ledger."""
+    shop = shop_in(room, "log")
+    copy = four_days(shop)
+    path = shop.inbox.ledger
+    log = path.with_name(f"{path.name}-wal")
+    with closing(sqlite3.connect(path, isolation_level=None)) as ledger:
+        ledger.execute("UPDATE file SET why = 'late'")
+        data = log.read_bytes()
+    path.unlink()
+    log.write_bytes(data)
+    yield Outcome("the status", run(shop, copy, gaps=True), 0)
+    yield Outcome("it knows what the copy knew", [file.why for file in shop.inbox.files()], [""])
 
 
 def titles(room: Room) -> Iterator[Outcome]:

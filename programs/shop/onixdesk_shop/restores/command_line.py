@@ -30,12 +30,8 @@ def command_line() -> argparse.ArgumentParser:
     add("--gaps", action="store_true", help="accepts a copy that lacks messages which no inbox can post again")
     add("--before-correction", action="store_true", help="accepts a copy from before a correction of the desk's text")
     add("--text", metavar="FILE", type=Path, help="puts a desk in place that is made from this corrected text of COPY")
-    add(
-        "--said",
-        metavar="TEXT",
-        default="what was refused is left out",
-        help="what was corrected, for the file corrections beside it",
-    )
+    help_of_said = "what was corrected, for the file corrections beside it"
+    add("--said", metavar="TEXT", default="what was refused is left out", help=help_of_said)
     add("--refuse", metavar=("MARK", "SERIES"), nargs=2, help="has the inbox refuse this file once you answered yes")
     add("copy", metavar="COPY", type=Path, help="a folder with the two files of a desk, of the name of the desk's")
     return parser

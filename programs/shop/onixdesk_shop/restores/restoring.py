@@ -6,7 +6,7 @@ import io
 from onixdesk_shop.batches import send
 from onixdesk_shop.copies.copying import copied
 from onixdesk_shop.copies.keeping import CORRECTIONS, corrections_in, corrections_since, is_name, named
-from onixdesk_shop.desk_files import Contents, DeskFile, check, contents_of
+from onixdesk_shop.desk_files import Contents, DeskFile, check, contents_of, log_of
 from onixdesk_shop.ends import program_of
 from onixdesk_shop.faults import Failed, Fault
 from onixdesk_shop.lines import ERROR, NOTICE, WARNING, cut, ranges, shown
@@ -187,6 +187,8 @@ class Restore:
             new = folder / f".{LEDGER}"
             machine.copy(options.copy / LEDGERS / f"{name}.db", new)
             machine.own(new, options.inboxes)
+            # The log of a lost ledger would be replayed into this one.
+            machine.remove(log_of(folder / LEDGER))
             machine.rename(new, folder / LEDGER)
             machine.sync_folder(folder)
             since = "it is unknown what was refused, let in or waived since"

@@ -52,14 +52,16 @@ def of_number(inbox: Inbox, number: int) -> list[str]:
 
 
 def of_isbn(inbox: Inbox, isbn: str) -> list[str]:
-    """The records with that ISBN, the message that named each last, and what it says."""
+    """The records with that ISBN, and what messages said of each, from the last back to the one that set its prices."""
     query = "SELECT reference, number, deleted FROM reference WHERE ' ' || isbns || ' ' LIKE '% ' || ? || ' %'"
     lines = []
     for reference, number, deleted in inbox.ledger.rows(f"{query} ORDER BY number", isbn):
         lines.append(f"{token(reference)}: {'deleted' if deleted else 'named last'} by number {number}")
-        row = inbox.ledger.row(number)
-        if row and row.has_text:
-            products = [each for each in products_of(inbox.ledger.text(number)) if each.reference == reference]
-            lines += [f"  {cut(line)}" for each in products for line in text_of(each.records).splitlines()]
         lines += of_number(inbox, number)
+        for row in reversed(inbox.ledger.messages("state = 'applied' AND text IS NOT NULL AND number <= ?", number)):
+            products = [each for each in products_of(inbox.ledger.text(row.number)) if each.reference == reference]
+            records = [line for each in products for line in text_of(each.records).splitlines()]
+            lines += [f"  {row.number}: {cut(line)}" for line in records]
+            if any(each.has_supply or each.is_block or each.is_deletion for each in products):
+                break
     return lines

@@ -231,8 +231,7 @@ def ledgers(room: Room) -> Iterator[Outcome]:
 def log_of_a_lost_ledger(room: Room) -> Iterator[Outcome]:
     """A ledger was moved away after a power loss, and its log stayed: nothing of that gets into the copy's ledger."""
     shop = shop_in(room, "log")
-    copy = four_days(shop)
-    path = shop.inbox.ledger
+    copy, path = four_days(shop), shop.inbox.ledger
     log = path.with_name(f"{path.name}-wal")
     with closing(sqlite3.connect(path, isolation_level=None)) as ledger:
         ledger.execute("UPDATE file SET why = 'late'")

@@ -50,15 +50,16 @@ def of_number(inbox: Inbox, number: int) -> list[str]:
 
 
 def of_isbn(inbox: Inbox, isbn: str) -> list[str]:
-    """The records with that ISBN, and what the messages say that named them last, down to the last that changed them."""
+    """The records with that ISBN, and what messages said of each, from the last back to the one that set its prices."""
     query = "SELECT reference, number, deleted FROM reference WHERE ' ' || isbns || ' ' LIKE '% ' || ? || ' %'"
     lines = []
     for reference, number, deleted in inbox.ledger.rows(f"{query} ORDER BY number", isbn):
         lines.append(f"{token(reference)}: {'deleted' if deleted else 'named last'} by number {number}")
+        lines += of_number(inbox, number)
         for row in reversed(inbox.ledger.messages("state = 'applied' AND text IS NOT NULL AND number <= ?", number)):
             products = [each for each in products_of(inbox.ledger.text(row.number)) if each.reference == reference]
-            lines += [f"  {row.number}: {cut(line)}" for one in products for line in text_of(one.records).splitlines()]
-            if any(each.is_block or each.is_deletion or each.has_supply for each in products):
+            records = [line for each in products for line in text_of(each.records).splitlines()]
+            lines += [f"  {row.number}: {cut(line)}" for line in records]
+            if any(each.has_supply or each.is_block or each.is_deletion for each in products):
                 break
-        lines += of_number(inbox, number)
     return lines

@@ -4,9 +4,9 @@
 
 It runs COMMAND ('make test') and looks at the processes below it twice a second. At the end it prints their processor
 time, as a multiple of that for the proofs of csv_records and onix_terms in the same run: for each crate its proof, its
-must-fail edits, its tests and the builds of its program; the crates of the longest chain; the peak memory; the minutes;
-how many crates were kept, which weigh nothing; and in a last line, 'weight: ..', the whole without the tests of the
-page and of PostgreSQL. Two runs compare if nothing ran beside them. The status is that of COMMAND.
+must-fail edits, its tests and the builds of its program; the minutes; how many crates were kept, which weigh nothing;
+and in a last line, 'weight: ..', the whole without the tests of the page and of PostgreSQL. Two runs compare if nothing
+ran beside them. The status is that of COMMAND.
 """
 
 import resource

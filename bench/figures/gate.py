@@ -1,11 +1,9 @@
-"""Processor time and memory of a run of the gate, by its parts."""
+"""Processor time of a run of the gate, by its parts."""
 
 import os
 from collections import defaultdict
 from pathlib import Path
 from typing import TypeAlias
-
-from tools.root import ROOT
 
 # A kind of part of the gate, and its crate.
 Part: TypeAlias = tuple[str, str]
@@ -43,8 +41,6 @@ class Sampler:
     def __init__(self, root: int) -> None:
         self.root = str(root)
         self.found: dict[tuple[str, str], tuple[Part, float]] = {}
-        # The peak memory of a process of a part, in bytes.
-        self.memory: dict[Part, int] = defaultdict(int)
 
     def look(self) -> None:
         """Notes what the processes have used so far."""
@@ -67,11 +63,7 @@ class Sampler:
 
     def take(self, process: tuple[str, str], seconds: float, words: list[str], apart: set[str]) -> None:
         try:
-            folder = Path("/proc", process[0])
-            part = ("apart", min(apart)) if apart else part_named(words, os.readlink(folder / "cwd"))
-            status = (folder / "status").read_text()
-            kilobytes = int(status.partition("VmHWM:")[2].partition("kB")[0] or 0)
-            self.memory[part] = max(self.memory[part], 1024 * kilobytes)
+            part = ("apart", min(apart)) if apart else part_named(words, os.readlink(f"/proc/{process[0]}/cwd"))
         except OSError:
             part = ELSE
         # A process that began as another one, or is about to end, has no words of its own.
@@ -82,18 +74,6 @@ class Sampler:
         for part, seconds in self.found.values():
             sums[part] += seconds
         return sums
-
-
-def longest_chain(weights: dict[Part, float]) -> tuple[float, list[str]]:
-    """The chain of crates, each based on the one before it, whose proofs weigh most together."""
-    chains: dict[str, tuple[float, list[str]]] = {}
-    lines = ROOT.joinpath("crates.txt").read_text(encoding="utf-8").splitlines()
-    # Lowest first.
-    for crate, _, below in (line.partition(":") for line in lines if ":" in line):
-        weight, chain = max((chains[it] for it in below.split() if it in chains), default=(0.0, []))
-        own = weights.get(("proofs", crate), 0.0) + weights.get(("tests", crate), 0.0)
-        chains[crate] = weight + own, [*chain, crate]
-    return max(chains.values())
 
 
 def table(weights: dict[Part, float]) -> list[str]:
@@ -111,16 +91,13 @@ def table(weights: dict[Part, float]) -> list[str]:
 
 
 def report(sampler: Sampler) -> list[str]:
-    """The table, the longest chain, the peak memory, and last the total weight."""
+    """The table, and last the total weight."""
     seconds = sampler.seconds()
     lines, weight = [], "not known"
     if all(part in seconds for part in BASE):
         base = sum(seconds[part] for part in BASE)
         weights = {part: each / base for part, each in seconds.items() if part[0] != "apart"}
-        chain, crates = longest_chain(weights)
-        lines = [*table(weights), f"the longest chain of crates: {chain:.2f} = {', '.join(crates)}"]
+        lines = table(weights)
         weight = f"{sum(weights.values()):.2f} times the proofs of csv_records and onix_terms ({base / 60:.1f} min)"
-    most = sorted(((size, *part) for part, size in sampler.memory.items()), reverse=True)[:5]
-    lines.append("most memory: " + ", ".join(f"{kind} {crate} {size / 1e9:.1f} GB" for size, kind, crate in most))
     lines += [f"left out: {name} {took / 60:.1f} min" for (kind, name), took in seconds.items() if kind == "apart"]
     return [*lines, f"weight: {weight}"]

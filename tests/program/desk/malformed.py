@@ -1,7 +1,5 @@
-"""Why requests are malformed, as `check` says it of a file, and `batch` and `deliver` behind their answers.
-
-The mistakes stand in tests/refusals/requests.txt: the name of a case is what its line says.
-"""
+"""Why requests are malformed, as `check` says it of a file, and `batch` and `deliver` behind their answers. The mistakes
+stand in tests/refusals/requests.txt: the name of a case is what its line says."""
 
 import re
 from collections.abc import Iterator

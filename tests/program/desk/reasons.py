@@ -144,9 +144,6 @@ def ports_and_sockets(room: Room) -> Iterator[Outcome]:
         yield Outcome(f"why: a batch to {name}", came, fault("socket"))
 
 
-UNNUMBERED = b"Message,1,06,4012345000009,06,5012345678900,,,,,\nEndMessage,1\n"
-
-
 # Questions over HTTP with a bad query, by the wrong key; and a good one.
 PRICE = "/articles/9781234567897/price?"
 TERMS = "day=20250301&country=GB&currency=GBP&type=02"
@@ -176,7 +173,7 @@ def bad_queries(room: Room) -> Iterator[Outcome]:
 POSTED = {
     b"Message,1,06,4012345000009,06,5012345678900,1,1,20250301,,\nEndMessage,5\n": "row 2: EndMessage: ",
     b"<ONIXMessage>": "row 1: <ONIXMessage>: ",
-    UNNUMBERED: None,
+    b"Message,1,06,4012345000009,06,5012345678900,,,,,\nEndMessage,1\n": None,
 }
 
 

@@ -50,7 +50,8 @@ class Inbox:
         found = Again()
         files: dict[int, tuple[File, list[int]]] = {}
         with closing(Ledger(self.machine, self.file)) as ledger:
-            for row in ledger.to_post(gaps):
+            # Below the first number nothing is posted.
+            for row in (each for each in ledger.to_post(gaps) if each.number >= gaps.first):
                 found.numbers.append(row.number)
                 files.setdefault(row.file, (ledger.file(row.file), []))[1].append(row.number)
                 if not row.has_text:

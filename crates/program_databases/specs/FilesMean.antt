@@ -19,7 +19,7 @@ use Rattle.desk_versions.specs.Openings.{AreEmptyFiles, AreFoundAs, opening}
 use Rattle.program_desks.specs.DeskFiles.{DeskFiles, LastsAlone}
 use Rattle.program_desks.specs.declared.kept_desks.Creation.{Creation}
 use Rattle.program_desks.specs.declared.kept_desks.Migration.{Migration}
-use Rattle.program_databases.specs.FileViews.{HoldMeta, MayBeTaken}
+use Rattle.program_databases.specs.FileViews.{HoldAlone, HoldMeta, MayBeTaken}
 use Rattle.program_databases.specs.Found.{store_creation}
 use Rattle.program_databases.specs.Migrated.{IsMigrationDone}
 use Rattle.program_databases.specs.Unopened.{LeavesFound}
@@ -76,6 +76,10 @@ module _ {K O U D : Type 0} (g : Ghosts D) (held : K → List ℕ → Image)
         → (files.found desks name creation).sound ↔ MayBeTaken (held desks name) creation
     pub holds : (desks : K) (name : List ℕ) (creation : Creation) (d : Trees)
         → (files.found desks name creation).holds d ↔ HoldMeta (held desks name) d
+    -- so are closed ones, also where they last alone
+    pub kept : (now : Files D) (d : Trees)
+        → (files.closed now).holds d ↔ ∥ HoldsDatabase (image_of g now) d ∥₁
+    pub alone : (now : Files D) (d : Trees) → files.hold_alone now d ↔ HoldAlone g now d
     -- where no desk is opened, and where none is brought to version 2, that is left of them
     pub spared : (desks : K) (name : List ℕ) (creation : Creation) (left : Unopened O U D g)
         → files.spared desks name creation left

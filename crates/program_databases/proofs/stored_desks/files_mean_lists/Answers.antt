@@ -24,6 +24,8 @@ pub returns-clause-taken : goal.returns-clause-taken
 returns-clause-taken g c = record {
   opened = λ desks name creation. (λ is. is, λ is. is);
   holds = λ desks name creation d. (λ is. is, λ is. is);
+  kept = λ now d. (λ is. is, λ is. is);
+  alone = λ now d. (λ is. is, λ is. is);
   spared = λ desks name creation left. (λ is. is, λ is. is);
   unmigrated = λ desks name creation left. (λ is. is, λ is. is);
   of_any_version = λ desks name L. (λ is. is, λ is. is);

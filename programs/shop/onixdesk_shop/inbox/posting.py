@@ -185,7 +185,7 @@ def begin_again(inbox: Inbox, file: File) -> None:
 
 def settle_rejected(inbox: Inbox, gaps: Gaps) -> None:
     """If a person refused a file, or a full file replaced it, and the desk lacks it, its numbers are free. If the inbox
-    gives numbers, they are waived, so that nothing waits for them."""
+    gives numbers, those up to the last final one are waived, so that nothing waits for them."""
     ledger = inbox.ledger
     waived = "SELECT number FROM decision WHERE what = 'waive' AND decision.file = message.file"
     is_over = f"state = 'returned' OR state = 'refused' AND number IN ({waived})"
@@ -193,7 +193,7 @@ def settle_rejected(inbox: Inbox, gaps: Gaps) -> None:
     rows = ledger.messages(f"NOT ({is_over}) AND file IN ({files})")
     for row in [row for row in rows if gaps.lacks(row.number)]:
         file = ledger.file(row.file)
-        is_given = inbox.settings.gives_number(file.ending)
+        is_given = inbox.settings.gives_number(file.ending) and row.number <= ledger.last_final()
         with ledger.step():
             ledger.set_message(row.number, State.REFUSED if is_given else State.RETURNED)
             ledger.forget_references(row.number)

@@ -154,20 +154,19 @@ def numbered_anew(room: Room) -> Iterator[Outcome]:
 
 
 def given_up(room: Room) -> Iterator[Outcome]:
-    """A number below a waived one keeps its file if a person refused it, and is waived once a full file replaces that
-    file."""
-    inbox = inbox_in(room, "given up", number=NEXT, full=1)
+    """A number that no desk took is free once a person refused its file: none below it is left out, even if its file
+    came twice before the others were judged anew."""
+    inbox = inbox_in(room, "given up", number=NEXT)
     inbox.series.parties = (*SENDER, *ADDRESSEE)
-    for place, price in enumerate(("4.50", "1000.00", "5.00"), 1):
-        inbox.take(f"{place}.xml", feed_of(None, {f"R{each}": price for each in range(12)}))
-    inbox.decide("refuse", "3.xml")
+    for name in "1.xml", "2.xml":
+        inbox.take(name, feed_of(None, {"R1": f"{name[0]}.00"}))
+    inbox.send("2.xml", feed_of(None, {"R1": "2.00"}))
+    inbox.terms = b"50"
+    inbox.run()
+    inbox.decide("refuse", "2.xml")
     inbox.series.parties = (*SENDER, "", "")
     inbox.run()
-    found = sorted(inbox.series.had), inbox.states()["2.xml"], price_of(inbox, "R1")
-    yield Outcome("below", found, ([1, 3], "quarantined", "4.500"))
-    inbox.take("4.xml", feed_of(None, {f"R{each}": "6.00" for each in range(12)}))
-    inbox.run()
-    yield Outcome("replaced", (inbox.series.next, price_of(inbox, "R1")), (5, "6.000"))
+    yield Outcome("nothing is left out", (inbox.series.next, price_of(inbox, "R1")), (2, "1.000"))
 
 
 def tried_again(room: Room) -> Iterator[Outcome]:

@@ -20,14 +20,14 @@ from onixdesk_shop.places import DESK_JSON, INBOX_SETTINGS, INBOXES, INCOMING, L
 from onixdesk_shop.settings import Settings, is_series, read_settings, terms_of
 from onixdesk_shop.shop_json import Shop, read_shop
 
-DESCRIPTION = """\
-Posts the files of a wholesaler's folder to a running desk, once each, in order:
-    onixdesk-inbox SERIES
-    onixdesk-inbox --let-in MARK | --refuse MARK | --dismiss MARK | --again MARK SERIES
-    onixdesk-inbox waive SERIES NUMBER | FIRST-LAST
-    onixdesk-inbox show SERIES --number N | --isbn ISBN | --file NAME
-    onixdesk-inbox report SERIES
-MARK is the beginning of the digest of a file, as the lines of an inbox have it."""
+USAGE = """\
+onixdesk-inbox SERIES
+   or: onixdesk-inbox --let-in MARK | --refuse MARK | --dismiss MARK | --again MARK SERIES
+   or: onixdesk-inbox waive SERIES NUMBER | FIRST-LAST
+   or: onixdesk-inbox show SERIES --number N | --isbn ISBN | --file NAME
+   or: onixdesk-inbox report SERIES"""
+
+DESCRIPTION = "Posts a wholesaler's files to a running desk, once each, in order. MARK is the beginning of a digest."
 
 # How many numbers are waived at once: more are a slip.
 MOST_NUMBERS = 10_000
@@ -61,6 +61,7 @@ def command_line() -> argparse.ArgumentParser:
     """A series may be named like a command: a lone word is a series."""
     name = sys.argv[1] if len(sys.argv) > 2 and sys.argv[1] in ("waive", "show", "report") else ""
     parser = parser_of("onixdesk-inbox", DESCRIPTION, **PATHS)
+    parser.usage = USAGE
     parser.set_defaults(command=name)
     if name:
         parser.add_argument("command", metavar=name)

@@ -15,7 +15,7 @@ use Rattle.program_desks.specs.DeskFiles.{DeskFiles, LeavesAs, OpensAs}
 use Rattle.program_desks.specs.declared.files_left.FilesLeft.{FilesLeft}
 use Rattle.program_desks.specs.declared.kept_desks.Creation.{Creation}
 use Rattle.program_desks.specs.declared.files_left.FilesLeft.TheVariants.{Closed, Unclosed, Unopened, Untouched}
-use Rattle.program_run.specs.TaskEnds.{TaskEnds, TaskLeads}
+use Rattle.program_run.specs.TaskEnds.{TaskEnds, TaskLeads, UnlessServing}
 use Rattle.program_run.specs.OverFiles.{Closes, EndsOverFiles}
 use Rattle.program_commands.proofs.TalkEnds.{batch_as, talks_as}
 use Rattle.program_commands.specs.CommandEnds.{GapsEnds, RequestsEnd}
@@ -98,6 +98,16 @@ task_as asked asks written f (task.Gaps name) holds told left status ended = by 
     by None end = (f [] end.0, end.1)
 task_as asked asks written f (task.Serve port requests batches) holds told left status ended =
     (ended.0, (ended.1.0, ended.1.1, f _ ended.1.2), ended.2)
+
+-- what is so is so unless the command is `serve`
+pub unless_serving : (task : Task) (so : Type 0) → so → UnlessServing task so
+unless_serving (task.Serve port requests batches) so is = tt
+unless_serving other so is = is
+
+-- where neither of two calls changed something unless the command is `serve`, both left it so
+pub both_unless_serving : {A : Type 0} (task : Task) (first then last : A) → UnlessServing task (then ≡ first) → UnlessServing task (last ≡ then) → UnlessServing task (last ≡ first)
+both_unless_serving (task.Serve port requests batches) first then last one two = tt
+both_unless_serving other first then last one two = subst (λ x. last ≡ x) one two
 
 -- a command that ended over a desk ended so over its files
 pub task_between : {k : DeskKind} (rules : List Rule) (written : List ℕ → Type 0) (task : Task) (holds : Holdings) (told left : Option (List ℕ)) (old first last new : View k) (own : ℕ) → OpensAs old first → LeavesAs last new

@@ -41,10 +41,11 @@ module _ {M : Type 0} {m : DeskKind} (seen : M → View m) {K : Type 0} {k : Des
 
   task_as : (ends : Task → (List Step → Type 0) → ℕ → Type 0) → ((task : Task) (asked : List Step → Type 0) (own : ℕ) → Tasks task asked own → ends task asked own)
       → (rules : List Rule) (action : Action) → RunsTask seen files holds lacks_folder contents remaining databases old new result Tasks rules action → RunsTask seen files holds lacks_folder contents remaining databases old new result ends rules action
-  task_as ends f rules (InMemory task) (untouched, first, last, is_new, sound, ended) = (untouched, first, last, is_new, sound, f task (λ steps. Leads rules steps (seen first) (seen last)) result.0 ended)
-  task_as ends f rules (InFile db task) (stay, unsent, ended) = (
+  task_as ends f rules (InMemory task) (stay, unsent, served, untouched, first, last, is_new, sound, ended) = (stay, unsent, served, untouched, first, last, is_new, sound, f task (λ steps. Leads rules steps (seen first) (seen last)) result.0 ended)
+  task_as ends f rules (InFile db task) (stay, unsent, served, ended) = (
     stay,
     unsent,
+    served,
     over_as files databases db.name.now (creation_by db.is_existing) (Written seen files holds lacks_folder contents remaining databases old new result) (λ first last. Tasks task (λ steps. Leads rules steps first last))
         (λ first last. ends task (λ steps. Leads rules steps first last)) (λ first last own is. f task (λ steps. Leads rules steps first last) own is) result.0 result.1 ended,
   )

@@ -30,7 +30,7 @@ use Rattle.program_rules.specs.declared.rules.RulesFault.{RulesFault}
 use Rattle.program_run.specs.ConvertEnds.{ConvertEnds}
 use Rattle.program_run.specs.ListingEnds.{ListingEnds}
 use Rattle.program_run.specs.OverFiles.{EndsOverFiles, IsUntouched, MigrateEnds, creation_by}
-use Rattle.program_run.specs.TaskEnds.{TaskEnds}
+use Rattle.program_run.specs.TaskEnds.{TaskEnds, UnlessServing}
 use Rattle.program_run.specs.Unread.{IsNoCommand, ReadsRules}
 use Rattle.program_run.specs.declared.machine.Machine.{Machine}
 
@@ -55,9 +55,14 @@ module _ {M : Type 0} {m : DeskKind} (seen : M → View m) {K : Type 0} {k : Des
   abbrev pub NothingIsSent : Type 0
   NothingIsSent = new.desks ≡ old.desks
 
-  -- neither files of a desk nor what names hold was touched, and nothing was sent to an open desk
+  -- no port or socket was bound or opened, so that nobody was served
+  abbrev pub NobodyIsServed : Type 0
+  NobodyIsServed = new.entrances ≡ old.entrances
+
+  -- neither files of a desk nor what names hold was touched, nothing was sent to an open desk, and
+  -- nobody was served
   abbrev pub NothingIsTouched : Type 0
-  NothingIsTouched = NamesStay × NothingIsSent × IsUntouched result.1
+  NothingIsTouched = NamesStay × NothingIsSent × NobodyIsServed × IsUntouched result.1
 
   -- how the program can end by what a command line asks for: by its action, under rules that are
   -- read; or, where these cannot be read, with nothing done. Ended: how an action ended under rules
@@ -84,11 +89,11 @@ module _ {M : Type 0} {m : DeskKind} (seen : M → View m) {K : Type 0} {k : Des
   -- ended
   abbrev pub RunsTask : (Task → (List Step → Type 0) → ℕ → Type 0) → List Rule → Action → Type 0
   RunsTask ends rules (InMemory task) =
-      NothingIsTouched
+      NamesStay × NothingIsSent × UnlessServing task NobodyIsServed × IsUntouched result.1
       × (first last : M) × (seen first).stands_for [] × (seen last).sound
       × ends task (λ steps. Leads rules steps (seen first) (seen last)) result.0
   RunsTask ends rules (InFile db task) =
-      NamesStay × NothingIsSent
+      NamesStay × NothingIsSent × UnlessServing task NobodyIsServed
       × EndsOverFiles files databases db.name.now (creation_by db.is_existing) Written
       (λ first last. ends task (λ steps. Leads rules steps first last)) result.0 result.1
   RunsTask ends rules _ = ⊤
@@ -96,14 +101,14 @@ module _ {M : Type 0} {m : DeskKind} (seen : M → View m) {K : Type 0} {k : Des
   -- `agreements`, `export` and `gaps` of all series
   abbrev pub Lists : List Rule → Action → Type 0
   Lists rules (Listed db listing) =
-      NamesStay × NothingIsSent
+      NamesStay × NothingIsSent × NobodyIsServed
       × EndsOverFiles files databases db.name.now Never Written (ListingEnds Written listing)
       result.0 result.1
   Lists rules _ = ⊤
 
   abbrev pub Migrates : List Rule → Action → Type 0
   Migrates rules (Migrate db) =
-      NamesStay × NothingIsSent
+      NamesStay × NothingIsSent × NobodyIsServed
       × MigrateEnds files databases db.name.now (creation_by db.is_existing) Written result.0
       result.1
   Migrates rules _ = ⊤
@@ -111,7 +116,7 @@ module _ {M : Type 0} {m : DeskKind} (seen : M → View m) {K : Type 0} {k : Des
   -- `batch` to an open desk. Sends: the desk of that name was sent that text
   abbrev pub Sends : (List ℕ → List ℕ → O → O → Type 0) → List Rule → Action → Type 0
   Sends sends rules (Send socket) =
-      NamesStay × IsUntouched result.1
+      NamesStay × NobodyIsServed × IsUntouched result.1
       × SendEnds (remaining old.streams.input)
       (λ text. sends socket.now text old.desks new.desks) NothingIsSent Written result.0
   Sends sends rules _ = ⊤
@@ -119,7 +124,7 @@ module _ {M : Type 0} {m : DeskKind} (seen : M → View m) {K : Type 0} {k : Des
   -- `convert`, which alone changes what names hold
   abbrev pub Converts : List Rule → Action → Type 0
   Converts rules (Convert c) =
-      IsUntouched result.1 × NothingIsSent
+      IsUntouched result.1 × NothingIsSent × NobodyIsServed
       × ConvertEnds (holds old.files) (holds new.files) (lacks_folder old.files)
       (remaining old.streams.input) Written (asked_view c) result.0
   Converts rules _ = ⊤

@@ -1,5 +1,5 @@
 -- How a command over a desk ends, whichever it is.
-use Rattle.std.specs.Prelude.{◌+◌, ℕ, List, [], Option, is_some, map}
+use Rattle.std.specs.Prelude.{◌+◌, ℕ, List, [], Option, is_some, map, ⊤}
 use Rattle.csv_records.specs.RecordTexts.{limit}
 use Rattle.csv_records.specs.Streams.{TakesAtMost}
 use Rattle.onix_terms.specs.SeriesName.{series_name_of}
@@ -24,6 +24,11 @@ TaskEnds asked written (task.Gaps name) holds told left status =
     GapsEnds asked written (series_name_of name.now) status
 TaskEnds asked written (task.Serve port requests batches) holds told left status =
     ServeEnds asked written (is_some batches) port requests status
+
+-- this is so unless the command is `serve`, of which nothing is said
+abbrev pub UnlessServing : Task → Type 0 → Type 0
+UnlessServing (task.Serve port requests batches) this = ⊤
+UnlessServing _ this = this
 
 -- of a command under these rules, by the same
 module _ (rules : List Rule) (written : List ℕ → Type 0) (task : Task) (holds : Holdings)

@@ -3,7 +3,7 @@
 ghost use Rattle.std.specs.Prelude.{◌≡◌, ◌≤◌, IfErr, IfOk, map};
 ghost use Rattle.std.specs.Io.KnownBytes.{Appends};
 ghost use Rattle.program_run.specs.Kinds.{ActionEnds, BatchRun, CheckRun, ConvertRun, DeliverRun, GapsRun, ListRun, MigrateRun, RunEnds, SendRun, ServeRun};
-ghost use Rattle.program_run.specs.TaskEnds.{NewDeskEnds, TaskLeads};
+ghost use Rattle.program_run.specs.TaskEnds.{NewDeskEnds, TaskLeads, UnlessServing};
 ghost use Rattle.program_run.specs.Unread.{IsNoCommand, ReadsRules};
 ghost use Rattle.program_words.specs.Asked.{Reads};
 ghost use Rattle.program_run.specs.OverFiles.{EndsOverFiles, creation_by};
@@ -57,6 +57,7 @@ fn run_in_memory<T: Clock, F: NamedFiles, N: Entrances, R: Read, W: Write, E: Wr
     streams: &mut Streams<R, W, E>,
 ) -> u8
     ensures status { result ≤ 3 }
+    ensures entrances { UnlessServing task.now (entrances.new ≡ entrances.old) }
     ensures end { NewDeskEnds precedence.now
         (Appends (W.contents streams.old.output) (W.contents streams.new.output)) task.now
         (F.holds files.now) (R.remaining streams.old.input) (R.remaining streams.new.input)
@@ -95,6 +96,7 @@ fn run_in_file<
     ensures status { result.0 ≤ 3 }
     ensures files { machine.new.files ≡ machine.old.files }
     ensures desks { machine.new.desks ≡ machine.old.desks }
+    ensures entrances { UnlessServing task.now (machine.new.entrances ≡ machine.old.entrances) }
     // The command ends as over any desk, whose files are then closed; the status is 3 where they
     // could not be.
     ensures end { EndsOverFiles K.files databases db.now.name.now

@@ -1,9 +1,9 @@
 //! A command over a desk, by what it is asked.
 
-ghost use Rattle.std.specs.Prelude.{◌≤◌};
+ghost use Rattle.std.specs.Prelude.{◌≡◌, ◌≤◌};
 ghost use Rattle.std.specs.Io.KnownBytes.{Appends};
 ghost use Rattle.series_rules.specs.Steps.{Asked};
-ghost use Rattle.program_run.specs.TaskEnds.{TaskEnds};
+ghost use Rattle.program_run.specs.TaskEnds.{TaskEnds, UnlessServing};
 
 use price_rules::precedence::Precedence;
 use program_clients::entrances::Entrances;
@@ -21,7 +21,9 @@ use std::time::Clock;
 
 /// Binds the port at which a command serves, before its desk is opened, so that nobody else has it
 /// meanwhile and clients wait; whether it could be is told behind the faults of the desk.
-pub(crate) fn bind_port<N: Entrances>(entrances: &mut N, task: &Task<'_>) {
+pub(crate) fn bind_port<N: Entrances>(entrances: &mut N, task: &Task<'_>)
+    ensures { UnlessServing task.now (entrances.new ≡ entrances.old) }
+{
     if let Task::Serve { port, .. } = task {
         entrances.bind(*port);
     }
@@ -39,6 +41,7 @@ pub(crate) fn run_task<D: Desk, T: Clock, F: NamedFiles, N: Entrances, R: Read, 
     streams: &mut Streams<R, W, E>,
 ) -> u8
     ensures status { result ≤ 3 }
+    ensures entrances { UnlessServing task.now (entrances.new ≡ entrances.old) }
     ensures end { TaskEnds (Asked D.seen precedence.now desk.old desk.new)
         (Appends (W.contents streams.old.output) (W.contents streams.new.output))
         task.now (F.holds files.now) (R.remaining streams.old.input)

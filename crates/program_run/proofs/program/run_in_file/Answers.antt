@@ -4,11 +4,14 @@ use Rattle.std.specs.Io.KnownBytes.{Appends}
 use Rattle.series_rules.proofs.StepLemmas.{traces_lead}
 use Rattle.program_desks.proofs.SeenLemmas.{leads_as}
 use Rattle.program_desks.specs.DeskFiles.{OpensAs}
-use Rattle.program_run.proofs.EndLemmas.{over_files, task_as, task_between}
+use Rattle.program_run.proofs.EndLemmas.{both_unless_serving, over_files, task_as, task_between}
 use Rattle.program_run.specs.TaskEnds.{TaskLeads}
 use Rattle.program_run.specs.OverFiles.{creation_by}
 use Rattle.series_rules.specs.Steps.{Asked, Leads}
 use Rattle.program_run.proofs.program.run_in_file.Goals as goal
+
+pub returns-in-Ok-clause-entrances : goal.returns-in-Ok-clause-entrances
+returns-in-Ok-clause-entrances g c = both_unless_serving c.args.task.now _ _ _ c.bind_port.ensures c.run_task-status.ensures.entrances
 
 pub returns-in-Ok-clause-end : goal.returns-in-Ok-clause-end
 returns-in-Ok-clause-end g c =

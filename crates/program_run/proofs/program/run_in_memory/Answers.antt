@@ -2,8 +2,11 @@ use Rattle.std.specs.Io.KnownBytes.{Appends}
 use Rattle.desk_memory.specs.contracts.desk.MemoryDeskDesk.TheImpl.{ghosts}
 use Rattle.series_rules.proofs.StepLemmas.{traces_lead}
 use Rattle.series_rules.specs.Steps.{Asked, Leads}
-use Rattle.program_run.proofs.EndLemmas.{task_as}
+use Rattle.program_run.proofs.EndLemmas.{both_unless_serving, task_as}
 use Rattle.program_run.proofs.program.run_in_memory.Goals as goal
+
+pub returns-clause-entrances : goal.returns-clause-entrances
+returns-clause-entrances g c = both_unless_serving c.args.task.now _ _ _ c.bind_port.ensures c.run_task-status.ensures.entrances
 
 pub returns-clause-end : goal.returns-clause-end
 returns-clause-end g c =

@@ -6,7 +6,7 @@ use Rattle.program_run.specs.Kinds.{ActionEnds, InvocationEnds}
 use Rattle.program_run.proofs.program.run_words.Goals as goal
 
 pub returns-in-Err-clause-end : goal.returns-in-Err-clause-end
-returns-in-Err-clause-end g c = inr (c.in-Err.ensures.err, (refl, refl, tt))
+returns-in-Err-clause-end g c = inr (c.in-Err.ensures.err, (refl, refl, refl, tt))
 
 -- where the words are read, the streams are as before
 pub returns-in-Err-rules_of-clause-end : goal.returns-in-Err-rules_of-clause-end
@@ -22,7 +22,7 @@ returns-in-Err-rules_of-clause-end g c =
       c.in-Ok.ensures.ok.1,
       subst (λ s. InvocationEnds ghosts.seen g.K.KeepsDesks.files holds lacks contents remaining c.args.databases (record machine { streams = s }) after (c.status_of.result, Untouched c.args.databases) c.in-Ok.invocation
           (ActionEnds ghosts.seen g.K.KeepsDesks.files holds lacks contents remaining c.args.databases (record machine { streams = s }) after (c.status_of.result, Untouched c.args.databases) g.O.OpenDesks.sends))
-          c.in-Ok.ensures.ok.0 (inr (c.in-Err-rules_of.fault, c.in-Err-rules_of.ensures, c.status_of.ensures, Appends-nil (contents c.read_words.new.streams.output), (refl, refl, tt))),
+          c.in-Ok.ensures.ok.0 (inr (c.in-Err-rules_of.fault, c.in-Err-rules_of.ensures, c.status_of.ensures, Appends-nil (contents c.read_words.new.streams.output), (refl, refl, refl, tt))),
     )
 
 pub returns-clause-end : goal.returns-clause-end

@@ -1,9 +1,21 @@
-use Rattle.std.proofs.Common.{List, map, subst, ℕ}
+use Rattle.std.proofs.Common.{List, map, refl, subst, ℕ}
 use Rattle.std.specs.Borrow.{Bor}
 use Rattle.std.specs.Io.KnownBytes.{Appends}
 use Rattle.series_rules.specs.Steps.{Asked}
 use Rattle.program_commands.specs.CommandEnds.{DeliverEnds}
 use Rattle.program_run.proofs.task.run_task.Goals as goal
+
+pub returns-in-Batch-clause-entrances : goal.returns-in-Batch-clause-entrances
+returns-in-Batch-clause-entrances g c = rw c.in-Batch.is refl
+
+pub returns-in-Deliver-clause-entrances : goal.returns-in-Deliver-clause-entrances
+returns-in-Deliver-clause-entrances g c = rw c.in-Deliver.is refl
+
+pub returns-in-Gaps-clause-entrances : goal.returns-in-Gaps-clause-entrances
+returns-in-Gaps-clause-entrances g c = rw c.in-Gaps.is refl
+
+pub returns-in-Serve-clause-entrances : goal.returns-in-Serve-clause-entrances
+returns-in-Serve-clause-entrances g c = rw c.in-Serve.is tt
 
 pub returns-in-Batch-clause-end : goal.returns-in-Batch-clause-end
 returns-in-Batch-clause-end g c = rw c.in-Batch.is (c.answer_input.ensures.end, c.answer_input.ensures.taken)

@@ -99,11 +99,6 @@ task_as asked asks written f (task.Gaps name) holds told left status ended = by 
 task_as asked asks written f (task.Serve port requests batches) holds told left status ended =
     (ended.0, (ended.1.0, ended.1.1, f _ ended.1.2), ended.2)
 
--- what is so is so unless the command is `serve`
-pub unless_serving : (task : Task) (so : Type 0) → so → UnlessServing task so
-unless_serving (task.Serve port requests batches) so is = tt
-unless_serving other so is = is
-
 -- where neither of two calls changed something unless the command is `serve`, both left it so
 pub both_unless_serving : {A : Type 0} (task : Task) (first then last : A) → UnlessServing task (then ≡ first) → UnlessServing task (last ≡ then) → UnlessServing task (last ≡ first)
 both_unless_serving (task.Serve port requests batches) first then last one two = tt

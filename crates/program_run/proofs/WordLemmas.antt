@@ -1,7 +1,6 @@
 -- Words that read so read as well so where nothing is said of those of `convert`.
 use Rattle.std.specs.Prelude.{⊤}
 use Rattle.std.proofs.Common.{List, Option, Some, None, inl, inr}
-use Rattle.clap.specs.Faults.{fault_of}
 use Rattle.clap.specs.Simple.{matches_of, subcommand_of}
 use Rattle.clap.specs.Walk.{Row, Text}
 use Rattle.program_words.specs.Asked.{IsAction, IsRefused, Reads, ReadsAs, ReadsOther, ReadsWords}

@@ -37,7 +37,6 @@ const SHOP = {
   language: [isLanguage, "language", "en-GB"],
   quantities: [areQuantities, "quantities", []],
   catalogue: [isCatalogue, "catalogue", ""],
-  many_copies: [(value) => isCount(value, 999_999), "manyCopies", 50],
   recommended_type: [(value) => kindOf(value) === "retail", "retailType", ""],
 };
 
@@ -48,7 +47,6 @@ const SERIES = {
   parts: [(value) => isCount(value, 9999), "parts", 1],
   number_offset: [(value) => value === 0 || isCount(value, 999_999_999), "offset", 0],
   mail: [isLike(/^[^\s@<>,;:?&"]+@[^\s@<>,;:?&"]+$/), "mail", ""],
-  free_from: [isLike(/^\d{1,9}(\.\d{1,3})?$/), "freeFrom", ""],
   account: [isText, "account", ""],
   csv: [(value) => wrongKey(value) === undefined, "csv", {}],
 };

@@ -5,6 +5,9 @@ import { today } from "../text/days.js";
 import { farOf } from "../article/retail.js";
 import { keyOf } from "../desk/offers.js";
 
+// More copies of a book have to be confirmed.
+const MANY = 50;
+
 /** The key of an answer: the book, the number of copies, and the day. */
 export const askedOf = ({ isbn, copies }) => `${isbn} ${copies} ${today()}`;
 
@@ -39,9 +42,9 @@ export const CONFIRMABLE = ["changed", "free", "far", "many"];
 
 /**
  * The state of a row: `offer`, which is ordered, if any, and `need`, why a person should look, if so. `shop` has the
- * most copies without a need (`manyCopies`) and the price `type`; what was `confirmed` has no need.
+ * price `type`; what was `confirmed` has no need.
  */
-export function stateOf(row, answer, { manyCopies, type, confirmed, changes }) {
+export function stateOf(row, answer, { type, confirmed, changes }) {
   if (answer === undefined) return {};
   if (answer.refusal !== undefined) return { need: "refused" };
   const { offer, need } = offerOf(row, answer);
@@ -50,7 +53,7 @@ export function stateOf(row, answer, { manyCopies, type, confirmed, changes }) {
     changed: changes.has(changeOf(row)),
     free: isNothing(offer.amount),
     far: farOf(offer, { ...answer, type }) !== undefined,
-    many: row.copies > manyCopies,
+    many: row.copies > MANY,
   };
   const open = CONFIRMABLE.find((reason) => needs[reason] && !confirmed.has(confirmKey(reason, row, offer)));
   return { offer, need: open };

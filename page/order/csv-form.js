@@ -33,7 +33,6 @@ const RIGHT = {
   heading: (value, { columns }) => typeof value === "boolean" || (areTexts(value) && value.length === columns.length),
   separator: (value) => [",", ";", "|", "\t"].includes(value),
   decimal: (value, { separator }) => [".", ","].includes(value) && value !== separator,
-  byte_order_mark: (value) => typeof value === "boolean",
 };
 
 /** The first key whose value is wrong; `undefined` if the form is right. */
@@ -54,7 +53,7 @@ export function formOf(settings, series) {
   const { csv, account = "" } = settings.series.find(({ name }) => name === series) ?? {};
   const { decimal } = { decimal: decimalSign(), ...csv };
   const columns = USUAL.filter((name) => name !== "account" || account !== "");
-  return { columns, heading: true, separator: decimal === "," ? ";" : ",", byte_order_mark: true, ...csv, decimal };
+  return { columns, heading: true, separator: decimal === "," ? ";" : ",", ...csv, decimal };
 }
 
 /** Whether a text begins like a formula, so that a file would have to change it. */
@@ -80,9 +79,9 @@ export function withSign(cells, sign) {
 }
 
 /** The text of a file in a complete form, from the cells of each row by column; `heads` names the columns. */
-export function textIn({ columns, heading, separator, decimal, byte_order_mark: hasMark }, heads, rows) {
+export function textIn({ columns, heading, separator, decimal }, heads, rows) {
   const names = heading === true ? heads : heading;
   const lines = rows.map((cells) => withSign(cells, decimal)).map((cells) => columns.map((name) => cells[name]));
   const all = names === false ? lines : [names, ...lines];
-  return (hasMark ? MARK : "") + all.map((line) => line.map(cellOf).join(separator) + LINE_END).join("");
+  return MARK + all.map((line) => line.map(cellOf).join(separator) + LINE_END).join("");
 }

@@ -181,8 +181,7 @@ export class Order {
 
   /** The rows of the list, each with its `row`, `answer` and `state`, and whether a person should look at it. */
   #all() {
-    const { manyCopies, type } = this.#settings;
-    const shop = { manyCopies, type, confirmed: this.#confirmed, changes: this.#changes };
+    const shop = { type: this.#settings.type, confirmed: this.#confirmed, changes: this.#changes };
     const doubtful = new Map();
     const isDoubtful = (series) => {
       if (!doubtful.has(series)) doubtful.set(series, this.#isDoubtful(series));

@@ -1,6 +1,6 @@
 // The orders of a list, one for each wholesaler: their sums, and how each leaves the page.
 
-import { compareAmounts, money } from "../text/amounts.js";
+import { money } from "../text/amounts.js";
 import { timeInWords } from "../text/days.js";
 import { element, found, table } from "../text/elements.js";
 import { keep, kept } from "../text/kept.js";
@@ -19,15 +19,6 @@ let isReferenceUsed = false;
 export function forgetSaved() {
   saved.clear();
   keep(KEY, "");
-}
-
-/** A sum, and the sum from which carriage is free, if desk.json has it. */
-function sumInWords(series, amount, { settings }) {
-  const { freeFrom = "" } = settings.series.find(({ name }) => name === series) ?? {};
-  const sum = money(amount, settings.currency);
-  if (freeFrom === "") return sum;
-  const least = money(freeFrom, settings.currency);
-  return say(compareAmounts(amount, freeFrom) < 0 ? "order.carriageFrom" : "order.carriageFree", { sum, least });
 }
 
 /** The buttons by which a wholesaler's order leaves the page, and how it did. */
@@ -52,8 +43,8 @@ export function showOrders(rows, context) {
   }));
   const lines = bySeries.map(({ series, books, copies, amount }) => ({
     cells: [
-      [wholesalerOf(context.settings, series)], [inDigits(books)], [inDigits(copies)], [sumInWords(series, amount, context)],
-      waysCell(series, context),
+      [wholesalerOf(context.settings, series)], [inDigits(books)], [inDigits(copies)],
+      [money(amount, context.settings.currency)], waysCell(series, context),
     ],
   }));
   found("orders-table").replaceChildren(table("orders-heading", heads, lines));

@@ -204,8 +204,6 @@ export const texts = {
     changed: "Seither geändert: {count} von {all} Titeln. Nichts ist gespeichert: bitte erst ansehen.",
     ready: "Alle Preise sind noch einmal gefragt. Jetzt jede Bestellung speichern, kopieren oder drucken und selbst abschicken.",
     orders: "Bestellungen",
-    carriageFrom: "{sum} von {least} bis frei Haus",
-    carriageFree: "{sum}, frei Haus",
     ways: { csv: "CSV", copy: "Kopieren", print: "Drucken" },
     savedAt: "{words} {time}",
     saved: "Gespeichert als {file}: {books}.",

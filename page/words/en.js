@@ -204,8 +204,6 @@ export const texts = {
     changed: "Changed since they were looked up: {count} of {all} books. Nothing is saved: look at them first.",
     ready: "All prices were asked for once more. Now save, copy or print each order, and send it yourself.",
     orders: "Orders",
-    carriageFrom: "{sum} of {least} for free carriage",
-    carriageFree: "{sum}, carriage free",
     ways: { csv: "CSV", copy: "Copy", print: "Print" },
     savedAt: "{words} {time}",
     saved: "Saved as {file}: {books}.",

@@ -17,7 +17,6 @@ PAGE = ROOT / "page"
 KINDS = {"html": "text/html", "js": "text/javascript", "css": "text/css", "json": "application/json"}
 
 WHOLESALERS = {"alpha": "Alpha Books", "beta": "Beta & Sons", "gamma": "Gamma"}
-FREE_FROM = Decimal("50.00")
 
 
 def isbn_of(number: int) -> str:
@@ -93,7 +92,7 @@ class ListDesk:
 def settings(forms: dict[str, object] | None = None, **others: object) -> str:
     """desk.json with these wholesalers, some with forms for their files."""
     series: list[dict[str, object]] = [{"name": name, "words": words} for name, words in WHOLESALERS.items()]
-    series[0] |= {"free_from": str(FREE_FROM), "account": "1177"}
+    series[0]["account"] = "1177"
     for item in series:
         if forms and item["name"] in forms:
             item["csv"] = forms[str(item["name"])]

@@ -65,7 +65,7 @@ def letter(site: PlainSite, browser: Browser) -> Iterator[Outcome]:
     """The letter has the wholesaler's own numbers; if the browser does not copy, it is shown."""
     site.begin()
     site.files["/desk.json"] = settings().replace(
-        '"free_from"', '"number_offset": 3, "mail": "edi@alpha.example", "free_from"'
+        '"account"', '"number_offset": 3, "mail": "edi@alpha.example", "account"'
     )
     site.desk.missing = {"alpha": [[2, 6]]}
     browser.open("#missing")

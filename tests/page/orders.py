@@ -340,8 +340,7 @@ def to_check(site: PlainSite, browser: Browser) -> Iterator[Outcome]:
     yield Outcome("to check: confirmed, each once", browser.count("#list .confirm, #list-doubts .confirm"), 0)
     alpha = browser.rows("#orders-table")[0][:4]
     sum_of_alpha = Decimal("9") * (offer_amount(0) + Decimal("15.00"))
-    free = f"{money(sum_of_alpha)}, carriage free"
-    yield Outcome("to check: the order of alpha", alpha, ["Alpha Books", "4", "36", free])
+    yield Outcome("to check: the order of alpha", alpha, ["Alpha Books", "4", "36", money(sum_of_alpha)])
 
 
 def offer_amount(number: int) -> Decimal:

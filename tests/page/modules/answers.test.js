@@ -12,7 +12,7 @@ const answer = (offers, choice = null, retail = []) => ({ offers, choice, retail
 const row = (copies, series) => ({ key: `9780140000016@${series ?? ""}`, isbn: "9780140000016", copies, series });
 
 function stateWith(each, answered, more = {}) {
-  return stateOf(each, answered, { manyCopies: 50, type: "05", confirmed: new Set(), changes: new Map(), ...more });
+  return stateOf(each, answered, { type: "05", confirmed: new Set(), changes: new Map(), ...more });
 }
 
 const [NORTH, SOUTH] = [offer("north", "9.000"), offer("south", "8.000")];

@@ -29,33 +29,33 @@ test("a wholesaler without a form gets what an order needs, with the mark by whi
   );
 });
 
-test("columns, heading, signs and mark are those of the form", () => {
-  const form = { columns: ["isbn", "copies", "order", "account"], heading: ["EAN", "QTY", "REF", "KDNR"], byte_order_mark: false };
+test("columns, heading and signs are those of the form", () => {
+  const form = { columns: ["isbn", "copies", "order", "account"], heading: ["EAN", "QTY", "REF", "KDNR"] };
   assert.equal(
     fileOf(form, [row("9780140000016", 2, "9.990")], { order: "A-7", account: "1177" }),
-    "EAN,QTY,REF,KDNR\r\n9780140000016,2,A-7,1177\r\n",
+    `${MARK}EAN,QTY,REF,KDNR\r\n9780140000016,2,A-7,1177\r\n`,
   );
-  const german = { columns: ["price", "sum", "isbn"], heading: false, separator: ";", decimal: ",", byte_order_mark: false };
-  assert.equal(fileOf(german, [row("9780140000016", 3, "1234.505")]), '"1234,505";"3703,515";9780140000016\r\n');
-  const tabs = { columns: ["isbn", "copies"], heading: false, separator: "\t", byte_order_mark: true };
+  const german = { columns: ["price", "sum", "isbn"], heading: false, separator: ";", decimal: "," };
+  assert.equal(fileOf(german, [row("9780140000016", 3, "1234.505")]), `${MARK}"1234,505";"3703,515";9780140000016\r\n`);
+  const tabs = { columns: ["isbn", "copies"], heading: false, separator: "\t" };
   assert.equal(fileOf(tabs, [row("9780140000016", 3, "1.000")]), `${MARK}9780140000016\t3\r\n`);
 });
 
 test("without signs in the form, those of the page's language", () => {
   speak("de-DE");
-  const came = fileOf({ columns: ["isbn", "price"], byte_order_mark: false }, [row("9780140000016", 2, "9.990")]);
+  const came = fileOf({ columns: ["isbn", "price"] }, [row("9780140000016", 2, "9.990")]);
   speak("en-GB");
-  assert.equal(came, 'ISBN;Preis\r\n9780140000016;"9,99"\r\n');
+  assert.equal(came, `${MARK}ISBN;Preis\r\n9780140000016;"9,99"\r\n`);
 });
 
 test("a text is one cell, and no formula", () => {
-  const form = { columns: ["reference", "note"], heading: false, byte_order_mark: false };
+  const form = { columns: ["reference", "note"], heading: false };
   for (const [text, cell] of [
     ["=1+1", "'=1+1"], ["a,b", '"a,b"'], ['say "so"', '"say ""so"""'], ["a;=1", '"a;\'=1"'], ["two\nlines", "two lines"],
     ["-7", "'-7"], ["\uff1dx", "'\uff1dx"],
   ]) {
     const came = fileOf(form, [row("9780140000016", 1, "1.000", { offer: { reference: text }, note: text })]);
-    assert.equal(came, `${cell},${cell}\r\n`);
+    assert.equal(came, `${MARK}${cell},${cell}\r\n`);
   }
 });
 
@@ -65,11 +65,11 @@ test("an order reference that a file would have to change is told", () => {
 });
 
 test("a key that is none is named", () => {
-  const right = { columns: ["isbn", "copies"], heading: true, separator: ";", decimal: ",", byte_order_mark: false };
+  const right = { columns: ["isbn", "copies"], heading: true, separator: ";", decimal: "," };
   assert.equal(wrongKey(right), undefined);
   for (const [key, value] of [
     ["columns", undefined], ["columns", []], ["columns", ["title"]], ["heading", ["one"]], ["heading", "yes"], ["separator", "-"],
-    ["decimal", ";"], ["byte_order_mark", 1], ["file", "a.csv"], ["isbn", "text"],
+    ["decimal", ";"], ["file", "a.csv"], ["isbn", "text"],
   ]) {
     assert.equal(wrongKey({ ...right, [key]: value }), key, key);
   }

@@ -14,8 +14,8 @@ const CASES = JSON.parse(readFileSync("pasted.json", "utf8"));
 
 const offer = (series) => ({ series, reference: "R", place: 1, availability: "21", amount: "1.000" });
 const ANSWER = { choice: { ...offer("north"), rule: 1 }, offers: [offer("north"), offer("south")], retail: [] };
-const SHOP = { manyCopies: 50, type: "05", confirmed: new Set(), changes: new Map() };
-const FORM = { columns: ["isbn", "copies"], heading: false, separator: ",", byte_order_mark: false };
+const SHOP = { type: "05", confirmed: new Set(), changes: new Map() };
+const FORM = { columns: ["isbn", "copies"], heading: false, separator: "," };
 const CONTEXT = { settings: { series: [{ name: "north", words: "North", csv: FORM }], currency: "GBP" }, order: "" };
 
 /** The lines of pasted text, by the columns that a buyer names, one table after the other. */
@@ -40,6 +40,6 @@ for (const each of CASES) {
     assert.deepEqual(markedOf(lines).map(({ reason }) => reason), each.marked ?? []);
     const rows = rowsOf(lines).map((row) => ({ row, state: stateOf(row, ANSWER, SHOP) }));
     const ordered = rows.filter(({ state }) => state.offer?.series === "north");
-    assert.equal(fileText(ordered, "north", CONTEXT), each.saved);
+    assert.equal(fileText(ordered, "north", CONTEXT), `\ufeff${each.saved}`);
   });
 }

@@ -17,25 +17,25 @@ test("the sample has nothing wrong in it", () => {
 });
 
 test("what is not named is as the page has it", () => {
-  const series = [{ ...SERIES, parts: 1, offset: 0, mail: "", freeFrom: "", account: "", csv: {} }];
+  const series = [{ ...SERIES, parts: 1, offset: 0, mail: "", account: "", csv: {} }];
   const settings = {
     series, shop: "", address: "", language: "en-GB", country: "DE", currency: "EUR", type: "05", quantities: [],
-    catalogue: "", manyCopies: 50, retailType: "",
+    catalogue: "", retailType: "",
   };
   assert.deepEqual(read(RIGHT), { settings, problems: [] });
 });
 
 test("all keys of the shop and of a series", () => {
   const csv = { columns: ["isbn", "copies"] };
-  const series = { ...SERIES, parts: 5, number_offset: 2, mail: "edi@north.example", free_from: "50.00", account: "7", csv };
+  const series = { ...SERIES, parts: 5, number_offset: 2, mail: "edi@north.example", account: "7", csv };
   const { settings, problems } = read({
     ...RIGHT, series: [series], shop: "Shop", address: "Street 1", language: "de", quantities: [1, 10],
-    catalogue: "https://catalogue.example.org/{isbn}", many_copies: 20, recommended_type: "04", price_file: { columns: [] },
+    catalogue: "https://catalogue.example.org/{isbn}", recommended_type: "04", price_file: { columns: [] },
   });
   assert.deepEqual(problems, []);
-  assert.deepEqual(settings.series, [{ ...SERIES, parts: 5, offset: 2, mail: "edi@north.example", freeFrom: "50.00", account: "7", csv }]);
-  const found = [settings.shop, settings.address, settings.language, settings.quantities, settings.manyCopies, settings.retailType];
-  assert.deepEqual(found, ["Shop", "Street 1", "de", [1, 10], 20, "04"]);
+  assert.deepEqual(settings.series, [{ ...SERIES, parts: 5, offset: 2, mail: "edi@north.example", account: "7", csv }]);
+  const found = [settings.shop, settings.address, settings.language, settings.quantities, settings.retailType];
+  assert.deepEqual(found, ["Shop", "Street 1", "de", [1, 10], "04"]);
 });
 
 // Each key, with values that it may not have.
@@ -43,11 +43,11 @@ const WRONG = {
   shop: [1], address: [null], language: ["", "Klingon?"], country: ["gb", "GBR"], currency: ["£", "euro"], price_type: [2, "5"],
   quantities: [[0], [1, 1], [10, 1], ["1"], [1.5], [1000000], 1, null, [1, 2, 3, 4, 5, 6, 7, 8, 9]],
   catalogue: ["http://a.example/{isbn}", "https://a.example/", "https://a.example/{isbn}{isbn}"],
-  many_copies: [0, "20"], recommended_type: ["05", 2],
+  recommended_type: ["05", 2],
 };
 const WRONG_OF_SERIES = {
   parts: [0, 10000, "5", 1.5], number_offset: [-1, 1.5, "1"], mail: ["north.example", "a@b?bcc=c@d", "a@b, c@d", 1],
-  free_from: [50, "1,5"], account: [7], csv: [{}, { columns: ["title"] }], words: [5],
+  account: [7], csv: [{}, { columns: ["title"] }], words: [5],
 };
 
 test("a value that a key may not have is told, and not used", () => {

@@ -116,7 +116,8 @@ ByFound way db Ends =
     (SaysVersion db (Some way.version) × way.stays db × Ends (λ now. now ≡ db))
     ⊎ ((SaysVersion db (Some way.version) × way.changes db
     × ((rows : DeskRows) → HoldsAny db rows → Ends (way.made db rows)))
-    ⊎ (SaysVersion db None × way.creates × (IsEmptied schema_0 db → Ends (λ now. Holds now first_rows))))
+    ⊎ (SaysVersion db None × way.creates
+    × (IsEmptied schema_0 db → Ends (λ now. Holds now first_rows))))
 
 -- a database for which that holds is shown, and is all that a crash leaves
 abbrev pub IsThere : State → (Database → Type 0) → Type 0

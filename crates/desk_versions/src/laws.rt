@@ -25,7 +25,8 @@ pub fn nothing_is_found_where_none_was_made()
 /// A database of strangers' tables alone, none of them with a name of the desk's, tells no version. So
 /// an opening of files that hold one never ends with that of another one.
 pub fn tables_of_strangers_tell_no_version()
-    ensures { (db : Database) → list_any is_desk_table db.schema.tables ≡ false → SaysVersion db None }
+    ensures { (db : Database) → list_any is_desk_table db.schema.tables ≡ false
+        → SaysVersion db None }
 {}
 
 /// Tables of version 1 and of version 2 are of the same requests, where each message is of form 1:

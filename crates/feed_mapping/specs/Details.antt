@@ -107,8 +107,8 @@ first_detail_reason supplier preferred nodes =
     option_and_then (λ c. detail_reason preferred c.below) (first (own_details supplier nodes))
 
 module _ (o : Opening) where
-  -- the context of the Prices of a SupplyDetail, by what closes them, and what goes before them; its
-  -- OrderQuantityMinimum counts where it is a quantity
+  -- the context of the Prices of a SupplyDetail, by what closes them, and what goes before them;
+  -- its OrderQuantityMinimum counts where it is a quantity
   abbrev pub context_by : List Kind → List First → Nodes → PriceContext
   context_by closed firsts nodes = record {
     opening = o;

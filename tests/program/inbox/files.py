@@ -232,6 +232,12 @@ def begins_again(room: Room) -> Iterator[Outcome]:
     inbox.send("newer.xml", feed_of(1, {"R1": "8.00"}))
     line = next(line for line in inbox.run() if line.endswith("newer.xml"))
     yield Outcome("once more", line.partition(";")[0], "if it begins again at 1: WORDS=--number-offset 5")
+    inbox = inbox_in(room, "waived")
+    inbox.take("2.xml", feed_of(2, {"R1": "2.00"}))
+    inbox.work(lambda each: decide.waive(each, [1]))
+    inbox.run()
+    (line,) = inbox.take("new.xml", feed_of(1, {"R1": "9.00"}))
+    yield Outcome("its number is waived", line.partition(";")[0], "if it begins again at 1: WORDS=--number-offset 2")
 
 
 def said_of_products(room: Room) -> Iterator[Outcome]:

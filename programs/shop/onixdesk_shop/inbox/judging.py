@@ -1,8 +1,6 @@
 """Judges one file: converts, checks and compares it, and writes the result into the ledger in one transaction."""
 
 import json
-import re
-import shlex
 import sqlite3
 import traceback
 from collections import Counter
@@ -16,7 +14,7 @@ from onixdesk_shop.feeds import Refusal, Said, check, convert
 from onixdesk_shop.inbox import full, quarantine
 from onixdesk_shop.inbox.context import Inbox
 from onixdesk_shop.inbox.ledger import STANDING, File, Message, Row, State
-from onixdesk_shop.inbox.posting import REASONS, begin_again, give_back, judge_anew, why_refused
+from onixdesk_shop.inbox.posting import REASONS, begin_again, give_back, judge_anew, offset_for, why_refused
 from onixdesk_shop.inbox.quarantine import Quarantine
 from onixdesk_shop.lines import ERROR, NOTICE, WARNING, cut, ranges
 from onixdesk_shop.messages import header_of, is_message, products_of
@@ -69,18 +67,6 @@ def judge(inbox: Inbox, file: File, gaps: Gaps) -> None:
         last = traceback.extract_tb(error.__traceback__)[-1]
         where = f"{Path(last.filename).name}:{last.lineno}"
         quarantine_file(inbox, file, f"it cannot be judged: {type(error).__name__} at {where}: {cut(str(error))}")
-
-
-def offset_for(inbox: Inbox, file: File, gaps: Gaps) -> list[str]:
-    """The setting with which a wholesaler goes on that seems to begin again at 1."""
-    settings, last = inbox.settings, inbox.ledger.last_taken()
-    if settings.number != OWN or file.ending == ".csv" or file.number is None or last is None or file.time < last:
-        return []
-    before = max(gaps.next - 1, gaps.greatest or 0) // settings.parts
-    if before < 2 or file.number > (settings.given("--number-offset", 0) + 1) * settings.parts:
-        return []
-    words = re.sub(r"--number-offset[ =]\S+", "", shlex.join(settings.words)).split()
-    return [f"if it begins again at 1: WORDS={' '.join([*words, '--number-offset', str(before)])}"]
 
 
 def quarantine_file(inbox: Inbox, file: File, why: str) -> None:

@@ -24,6 +24,9 @@ from onixdesk_shop.settings import OWN
 # With more records of one ISBN, a question about it keeps all others waiting.
 MOST_RECORDS_OF_ONE_ISBN = 1000
 
+# How long a conversion may take, and that of a file which a person let in.
+SECONDS, LET_IN_SECONDS = 60, 1800
+
 
 @dataclass
 class Feed:
@@ -92,8 +95,9 @@ def feed_of(inbox: Inbox, file: File, gaps: Gaps, words: list[str], terms: bytes
             kept = [row.number for row in inbox.ledger.messages_of(file) if row.state != State.RETURNED]
             first = kept[0] if kept else inbox.ledger.next_number(gaps, inbox.settings.parts)
             number = ["--number", str((first - 1) // inbox.settings.parts + 1)]
+        seconds = LET_IN_SECONDS if inbox.is_let_in(file) else SECONDS
         texts, said = convert(
-            inbox.machine, inbox.places.program, source, [*words, *number], terms, inbox.folder / WORK
+            inbox.machine, inbox.places.program, source, [*words, *number], terms, inbox.folder / WORK, seconds
         )
     return Feed(file, [message_of(inbox, text) for text in texts], words, terms, said)
 

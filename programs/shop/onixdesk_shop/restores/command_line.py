@@ -7,17 +7,17 @@ from onixdesk_shop.ends import parser_of
 from onixdesk_shop.faults import DONE, FAILED, Failed, Fault
 from onixdesk_shop.lines import ERROR, WARNING
 from onixdesk_shop.machine import Machine
-from onixdesk_shop.places import DESK_FILE, INBOX_SETTINGS, INBOXES, PROGRAM
+from onixdesk_shop.places import DESK_FILE, INBOX_SETTINGS, PROGRAM
 from onixdesk_shop.restores.inboxes import inboxes_in, wait_for_all
 from onixdesk_shop.restores.restoring import Restore
 from onixdesk_shop.units import DESK, Units
 
-PATHS = {"db": DESK_FILE, "inboxes": INBOXES, "settings": INBOX_SETTINGS, "program": PROGRAM}
+PATHS = {"db": DESK_FILE, "settings": INBOX_SETTINGS, "program": PROGRAM}
 
 DESCRIPTION = """\
 Replaces the desk by COPY, a folder that desk-copy made; the desk's own files get another name. SQLite and the desk's
-program check the copy. It lists what the inboxes will post again, each file with the command that refuses it, and asks;
-agreements and waivers that the desk has and the copy lacks are made again. Then it stops the units of onixdesk that
+program check the copy. It lists what the inboxes, beside the desk's folder, will post again, each file with the command
+that refuses it, and asks; agreements and waivers that the desk has and the copy lacks are made again. Then it stops the units of onixdesk that
 run, puts the two files in place, starts the units, and waits until the inboxes have posted everything again.
 After a kill, run the same command again."""
 
@@ -68,6 +68,6 @@ def status_of(machine: Machine, run: Restore) -> int:
     if DESK not in run.work.started:
         machine.tell(ERROR, f"systemctl start {DESK}; the desk did not run, and is not started")
         return FAILED
-    inboxes = inboxes_in(machine, run.options.inboxes, run.options.settings)
+    inboxes = inboxes_in(machine, run.inboxes_folder, run.options.settings)
     has_all = run.work.is_started and wait_for_all(machine, inboxes, run.planned, run.work.started) and run.has_all
     return DONE if has_all else FAILED

@@ -11,7 +11,7 @@ from onixdesk_shop.ends import program_of
 from onixdesk_shop.faults import Failed, Fault
 from onixdesk_shop.lines import ERROR, NOTICE, WARNING, cut, ranges, shown
 from onixdesk_shop.machine import Machine
-from onixdesk_shop.places import LEDGER, LEDGERS
+from onixdesk_shop.places import INBOXES, LEDGER, LEDGERS
 from onixdesk_shop.restores.inboxes import Inbox, inboxes_in
 from onixdesk_shop.restores.placing import Work
 from onixdesk_shop.units import Units
@@ -23,6 +23,8 @@ class Restore:
     def __init__(self, machine: Machine, options: argparse.Namespace) -> None:
         self.machine = machine
         self.options = options
+        # The inboxes are beside the folder of the desk.
+        self.inboxes_folder = options.db.absolute().parent.with_name(INBOXES.name)
         self.work = Work(machine, options.db)
         self.units = Units(machine)
         self.desk = DeskFile(machine, program_of(options.program), self.work.new)
@@ -108,7 +110,7 @@ class Restore:
     def inboxes(self) -> list[Inbox]:
         """The present inboxes, and those whose ledgers only the copy has."""
         machine, options = self.machine, self.options
-        found = inboxes_in(machine, options.inboxes, options.settings)
+        found = inboxes_in(machine, self.inboxes_folder, options.settings)
         known = {inbox.series for inbox in found}
         for name in self.ledgers_of_copy():
             if name not in known:
@@ -178,15 +180,15 @@ class Restore:
         """Puts a ledger of the copy in place if there is none, or one of an inbox that has never taken a file."""
         machine, options = self.machine, self.options
         for name in self.ledgers_of_copy():
-            folder = options.inboxes / name
+            folder = self.inboxes_folder / name
             present = Inbox(machine, name, folder / LEDGER, options.settings)
-            if not machine.exists(options.inboxes) or machine.exists(present.file) and not present.is_unused():
+            if not machine.exists(self.inboxes_folder) or machine.exists(present.file) and not present.is_unused():
                 continue
             machine.make_folder(folder)
-            machine.own(folder, options.inboxes)
+            machine.own(folder, self.inboxes_folder)
             new = folder / f".{LEDGER}"
             machine.copy(options.copy / LEDGERS / f"{name}.db", new)
-            machine.own(new, options.inboxes)
+            machine.own(new, self.inboxes_folder)
             # The log of a lost ledger would be replayed into this one.
             machine.remove(log_of(folder / LEDGER))
             machine.rename(new, folder / LEDGER)

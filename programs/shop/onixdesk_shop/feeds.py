@@ -82,8 +82,7 @@ def convert(
     machine: Machine, program: Path, source: Path, words: list[str], terms: bytes | None, work: Path, limit: int = 1800
 ) -> tuple[list[bytes], Said]:
     """The messages of a feed, in order of number, and what the converter said. Raises Refusal if it has none that the
-    desk would take, BadCall if the words or the table of terms are wrong, BadEnd after `limit` seconds. Empties the
-    folder `work` first."""
+    desk would take, BadCall if the words or the table of terms are wrong. Empties the folder `work` first."""
     machine.remove_tree(work)
     machine.make_folder(work)
     call: list[str | Path] = [program, "convert", *words, "-o", work, "-"]

@@ -442,3 +442,17 @@ def unforeseen(room: Room) -> Iterator[Outcome]:
         inbox.decide("let-in", "2.xml")
         inbox.run()
         yield Outcome(f"{name}: let in", price_of(inbox, "R1"), "2.000")
+
+
+def slow(room: Room) -> Iterator[Outcome]:
+    """A conversion has a minute, and half an hour once a person let the file in: the machine may have been slow."""
+    inbox = inbox_in(room, "slow")
+    inbox.send("1.xml", feed_of(1, {"R1": "1.00"}))
+    for takes, wanted in (61, "quarantined"), (1801, "quarantined"), (1800, "applied"):
+        machine = inbox.machine()
+        machine.conversion = takes
+        (line,) = inbox.run(machine)
+        is_told = "quarantined: it cannot be judged: onixdesk takes too long" in line
+        yield Outcome(f"{takes} seconds", (inbox.states(), is_told), ({"1.xml": wanted}, wanted == "quarantined"))
+        if is_told:
+            inbox.decide("let-in", "1.xml")

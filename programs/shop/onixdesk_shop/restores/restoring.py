@@ -42,7 +42,7 @@ class Restore:
         machine, options, name = self.machine, self.options, self.options.db.name
         made = corrections_since(machine, options.db.parent, options.copy)
         if made and not options.before_correction:
-            raise Failed(f"{options.copy}: it is from before a correction (--before-correction): {made[0]}")
+            raise Failed(f"{options.copy}: it is from before a correction (--before-correction): {'; '.join(made)}")
         for line in made:
             machine.tell(WARNING, f"has to be made again: {line}")
         # SQLite leaves the third file if somebody has looked at a copy.
@@ -89,6 +89,7 @@ class Restore:
     def plan(self, present: Contents) -> tuple[list[str], list[str]]:
         """What is posted again, and what is lost, in lines."""
         reports, said, lost = self.desk.gaps(), [], []
+        refusal = "onixdesk-inbox --refuse {} {};".format(*self.options.refuse or ("", ""))
         had = present.beyond(self.base).messages
         for inbox in self.inboxes():
             gaps = reports.get(inbox.series)
@@ -98,7 +99,8 @@ class Restore:
             again = inbox.again(gaps)
             self.planned[inbox.series] = again.numbers
             self.has_refused |= any((inbox.series, number) in had for number in again.refused)
-            said += [f"{inbox.series}: the copy waits for number {gaps.next}", *again.lines]
+            said.append(f"{inbox.series}: the copy waits for number {gaps.next}")
+            said += [line for line in again.lines if not line.startswith(refusal)]
             if again.gone:
                 lost.append(f"{inbox.series}: the texts of {ranges(again.gone)} are not kept any more")
             had -= {(inbox.series, number) for number in {*again.numbers, *again.refused}}

@@ -24,8 +24,8 @@ from tests.shop.fake_machine import Killed
 from tests.shop.fake_program import SENDER, feed_of, isbn_of
 from tests.shop.inboxes import SERIES
 
-OPTIONS: dict[str, Any] = dict.fromkeys(("yes", "gaps", "before_correction"), False)
-OPTIONS |= {"text": None, "refuse": None, "said": "it was wrong"}
+OPTIONS: dict[str, Any] = dict.fromkeys(("yes", "gaps", "before_correction", "text", "refuse"))
+OPTIONS["said"] = "it was wrong"
 
 # Every so many'th call of a restore is tried; ONIXDESK_STRIDE=1 tries all.
 STRIDE = int(os.environ.get("ONIXDESK_STRIDE", "9"))

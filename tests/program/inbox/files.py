@@ -10,6 +10,7 @@ from unittest.mock import patch
 from onixdesk_shop.faults import BadEnd
 from onixdesk_shop.inbox import decide, keeping, report, show
 from onixdesk_shop.inbox.command_line import numbers_word
+from onixdesk_shop.inbox.context import DAY
 from onixdesk_shop.settings import NEXT
 from tests.program.room import Room
 from tests.running import Outcome
@@ -17,8 +18,6 @@ from tests.shop.fake_desk import WAIVED
 from tests.shop.fake_program import SENDER, feed_of, isbn_of, message_of, product_of
 from tests.shop.fake_machine import FakeMachine, Killed
 from tests.shop.inboxes import SERIES, START, FakeInbox
-
-DAY = 86_400
 
 
 def inbox_in(room: Room, name: str, **settings: Any) -> FakeInbox:
@@ -450,7 +449,7 @@ def slow(room: Room) -> Iterator[Outcome]:
     inbox.send("1.xml", feed_of(1, {"R1": "1.00"}))
     for takes, wanted in (61, "quarantined"), (1801, "quarantined"), (1800, "applied"):
         machine = inbox.machine()
-        machine.conversion = takes
+        machine.conversion_seconds = takes
         (line,) = inbox.run(machine)
         is_told = "quarantined: it cannot be judged: onixdesk takes too long" in line
         yield Outcome(f"{takes} seconds", (inbox.states(), is_told), ({"1.xml": wanted}, wanted == "quarantined"))

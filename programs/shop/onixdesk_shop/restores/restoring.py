@@ -24,7 +24,7 @@ class Restore:
         self.machine = machine
         self.options = options
         # The inboxes are beside the folder of the desk.
-        self.inboxes_folder = options.db.absolute().parent.with_name(INBOXES.name)
+        self.inboxes_folder = options.db.absolute().parent.parent / INBOXES.name
         self.work = Work(machine, options.db)
         self.units = Units(machine)
         self.desk = DeskFile(machine, program_of(options.program), self.work.new)

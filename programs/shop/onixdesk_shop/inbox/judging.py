@@ -19,7 +19,6 @@ from onixdesk_shop.inbox.quarantine import Quarantine
 from onixdesk_shop.lines import ERROR, NOTICE, WARNING, cut, ranges
 from onixdesk_shop.messages import header_of, is_message, products_of
 from onixdesk_shop.places import WORK
-from onixdesk_shop.settings import OWN
 
 # With more records of one ISBN, a question about it keeps all others waiting.
 MOST_RECORDS_OF_ONE_ISBN = 1000

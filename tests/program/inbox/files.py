@@ -427,9 +427,7 @@ def unforeseen(room: Room) -> Iterator[Outcome]:
     """An unexpected failure on a file stops the series with a line, never passes, and a person has it tried again."""
     for name, target, error in (
         ("mistake", "onixdesk_shop.inbox.quarantine.look_at", ValueError("no digit")),
-        ("child", "onixdesk_shop.inbox.quarantine.look_at", BadEnd("onixdesk was killed by signal 9")),
         ("conversion", "tests.shop.fake_program.convert", BadEnd("onixdesk was killed by signal 9")),
-        ("check", "tests.shop.fake_program.check", BadEnd("onixdesk takes too long")),
     ):
         inbox = inbox_in(room, name)
         inbox.take("1.xml", feed_of(1, {"R1": "1.00"}))

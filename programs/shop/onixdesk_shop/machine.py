@@ -228,9 +228,11 @@ class Machine:
         return False
 
     def backup(self, database: Path, target: Path) -> None:
-        """Copies a database that others may write to meanwhile."""
+        """Copies a database that others may write to meanwhile; DatabaseError if the copy is not sound."""
         with contextlib.closing(sqlite3.connect(database)) as old, contextlib.closing(sqlite3.connect(target)) as new:
             old.backup(new)
+            if (found := new.execute("PRAGMA integrity_check").fetchone()[0]) != "ok":
+                raise sqlite3.DatabaseError(found)
 
     # The desk
 
@@ -241,10 +243,7 @@ class Machine:
             client.connect(str(address))
             client.sendall(text)
             client.shutdown(socket.SHUT_WR)
-            pieces = []
-            while piece := client.recv(PIECE):
-                pieces.append(piece)
-        return b"".join(pieces)
+            return b"".join(iter(lambda: client.recv(PIECE), b""))
 
     # Children
 

@@ -38,6 +38,7 @@ class Feed:
     said: Said = field(default_factory=Said)
     products: int = 0
     bare: int = 0
+    lost: int = 0
 
 
 def judge(inbox: Inbox, file: File, gaps: Gaps) -> None:

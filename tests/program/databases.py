@@ -142,8 +142,7 @@ REFUSED = [
 def is_refused(statements: str, line: bytes, room: Room) -> Iterator[Outcome]:
     """The database is opened before anything is read."""
     execute(room, statements)
-    came = room.run("--db", DATABASE, "batch", given=UNREADABLE)
-    yield Outcome(f"refused: {statements}", came, Ran(3, b"", line))
+    yield Outcome(f"refused: {statements}", room.run("--db", DATABASE, "batch", given=UNREADABLE), Ran(3, b"", line))
 
 
 def is_opened_first(room: Room) -> Iterator[Outcome]:

@@ -105,6 +105,8 @@ def convert(
 
 def check(machine: Machine, program: Path, message: bytes) -> str:
     """Why the desk would refuse a message, or an empty text."""
+    if message.decode(errors="replace").encode() != message:
+        return "it is not UTF-8"
     ended = machine.run([program, "check", "-"], (DONE, FAILED), message, seconds=CHECK_SECONDS)
     if ended.status == DONE:
         return ""

@@ -241,5 +241,4 @@ def amounts(old: Spans, new: Spans) -> Iterator[tuple[int | None, int | None]]:
 
 
 def least(spans: Spans, day: str) -> int | None:
-    found = [amount for first, last, amount in spans if first <= day <= last and amount is not None]
-    return min(found, default=None)
+    return min((amount for first, last, amount in spans if first <= day <= last and amount is not None), default=None)

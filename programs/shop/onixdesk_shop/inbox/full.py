@@ -85,8 +85,7 @@ def with_records(message: Message, added: list[list[str]]) -> Message:
     """A message with more products before its end."""
     if not added:
         return message
-    records = list(records_of(message.text))
-    body = [record for record in records if not is_end(record)]
+    body = [record for record in records_of(message.text) if not is_end(record)]
     text = text_of([*body, *added, ["EndMessage", str(len(body) + len(added))]])
     return replace(message, text=text.encode(), deletions=len(added))
 

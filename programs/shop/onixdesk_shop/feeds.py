@@ -10,8 +10,8 @@ from onixdesk_shop.feed_stream import Damaged, pieces_of
 from onixdesk_shop.lines import cut, shown
 from onixdesk_shop.machine import Machine
 
-# How long a reading for people and a check may take.
-READING_SECONDS, CHECK_SECONDS = 600, 60
+# How long a reading for people may take.
+READING_SECONDS = 600
 
 PROGRAM_SAYS = "onixdesk: "
 ON_INPUT = re.compile(r"onixdesk: -(?::([0-9]+):([0-9]+))?: ")
@@ -103,11 +103,11 @@ def convert(
     return messages, said
 
 
-def check(machine: Machine, program: Path, message: bytes) -> str:
+def check(machine: Machine, program: Path, message: bytes, limit: int) -> str:
     """Why the desk would refuse a message, or an empty text."""
     if message.decode(errors="replace").encode() != message:
         return "it is not UTF-8"
-    ended = machine.run([program, "check", "-"], (DONE, FAILED), message, seconds=CHECK_SECONDS)
+    ended = machine.run([program, "check", "-"], (DONE, FAILED), message, seconds=limit)
     if ended.status == DONE:
         return ""
     lines = ended.errors.decode("utf-8", "backslashreplace").splitlines()

@@ -44,7 +44,7 @@ class Entry(NamedTuple):
 class Machine:
     def __init__(self, program: str) -> None:
         self.program = program
-        self.is_output_broken = False
+        self.is_output_broken = sys.stdout is None
 
     def now(self) -> float:
         return time.time()
@@ -182,8 +182,11 @@ class Machine:
 
     def connect(self, path: Path, schema: str = "") -> sqlite3.Connection:
         """A database that syncs each transaction when it commits; it is made by the schema if it does not exist."""
-        connection = sqlite3.connect(path, isolation_level=None)
-        connection.execute("PRAGMA journal_mode=WAL")
+        try:
+            connection = sqlite3.connect(path, isolation_level=None)
+            connection.execute("PRAGMA journal_mode=WAL")
+        except sqlite3.DatabaseError as error:
+            raise Fault(f"{path}: {error}") from None
         connection.execute("PRAGMA synchronous=FULL")
         connection.execute("PRAGMA foreign_keys=ON")
         if schema and not connection.execute("SELECT count(*) FROM sqlite_schema").fetchone()[0]:

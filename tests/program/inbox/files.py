@@ -442,12 +442,12 @@ def unforeseen(room: Room) -> Iterator[Outcome]:
 
 
 def slow(room: Room) -> Iterator[Outcome]:
-    """A conversion has a minute, and half an hour once a person let the file in: the machine may have been slow."""
+    """A conversion and a check have a minute, and half an hour once a person let the file in."""
     inbox = inbox_in(room, "slow")
     inbox.send("1.xml", feed_of(1, {"R1": "1.00"}))
     for takes, wanted in (61, "quarantined"), (1801, "quarantined"), (1800, "applied"):
         machine = inbox.machine()
-        machine.conversion_seconds = takes
+        machine.program_seconds = takes
         (line,) = inbox.run(machine)
         is_told = "quarantined: it cannot be judged: onixdesk takes too long" in line
         yield Outcome(f"{takes} seconds", (inbox.states(), is_told), ({"1.xml": wanted}, wanted == "quarantined"))

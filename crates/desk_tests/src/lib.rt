@@ -7,8 +7,6 @@ mod asking;
 #[cfg(test)]
 mod cases;
 #[cfg(test)]
-mod contents;
-#[cfg(test)]
 mod desks;
 #[cfg(test)]
 mod disks;
@@ -22,5 +20,3 @@ mod refusals;
 mod stores;
 #[cfg(test)]
 mod streams;
-#[cfg(test)]
-mod unasked;

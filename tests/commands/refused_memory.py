@@ -1,6 +1,6 @@
 """Refuses one request for memory in each run of the tests of the desks: of messages, waivers, questions, choices with
 calendars and exchanges over the desk in memory and over tables; of forty messages that are applied at once, over the
-desk in memory and over files; and of a migration.
+desk in memory and over files with the rows of their tables; and of a migration.
 
     tests/refused-memory [--longer] [-k TEXT] [PROGRAM]
 
@@ -20,7 +20,7 @@ from tests.memory.sweep import Sweep
 
 MEMORY = "stores::desks::desk_in_memory"
 TABLES = "stores::desks::tables_in_memory"
-FILES = "stores::desks::desk_in_files"
+FILES = "stores::desks::tables_in_files"
 
 # The first runs to the end of its list. The forty messages are applied over tables once, in files.
 SWEEPS = [
@@ -31,8 +31,8 @@ SWEEPS = [
     Sweep(MEMORY, "exchanges", ends=True),
     Sweep(TABLES, "exchanges", ends=True),
     Sweep(MEMORY, "drain", ends=True),
-    Sweep(FILES, "drain", ends=True),
-    Sweep("stores::desks::migration", ends=True),
+    Sweep(FILES, "rows", ends=True),
+    Sweep(FILES, "migration", ends=True),
 ]
 
 
@@ -45,8 +45,8 @@ LONGER = [
     Sweep(TABLES, "questions", step=3),
     Sweep(TABLES, "exchanges", step=7),
     Sweep(TABLES, "drain", step=31),
-    Sweep(FILES, "steps", step=499),
-    Sweep(FILES, "drain", step=97),
+    Sweep("stores::desks::desk_in_files", "steps", step=499),
+    Sweep("stores::desks::desk_in_files", "drain", step=97),
 ]
 
 

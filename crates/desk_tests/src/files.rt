@@ -1,14 +1,16 @@
 //! Files that are opened for a call and closed behind it: a request to the desk in them, their way to version
-//! 2, or statements of the test's own. What a call is stands in the first line of its text, and what it gives is
-//! written to the output that is lent.
+//! 2, calls of the tables, or statements of the test's own. What a call is stands in the first line of its text,
+//! and what it gives is written to the output that is lent.
 
 ghost use Rattle.std.specs.Prelude.{IsTrue};
 
 use crate::asking::{End, Taken, ask_store, end_of_fault, end_of_line};
 use crate::desks::{StoppedDesk, TestDesk};
 use crate::disks::{OPTIONS, TestFiles, copied, failing_files, stop_machine};
+use crate::table_calls::told;
 use desk_store::{Creation, DeskStore, OpenFault, OpenOptions, migrate_files_with};
 use desk_tables::rows::fault::fault_of;
+use desk_tables::tables::Tables;
 use onix_message::StoreFault;
 use price_rules::precedence::Precedence;
 use sqlite::{Alter, Connection, FileStore, Files};
@@ -28,6 +30,8 @@ pub enum Call<'a> {
     Ask(&'a Precedence, &'a str),
     /// To version 2, where it is not of that already.
     Migrate,
+    /// A call of the tables, by its name.
+    Tables(&'a str),
     /// Statements.
     Execute(&'a str),
 }
@@ -37,6 +41,7 @@ fn call_of<'a>(rules: &'a Precedence, text: &'a str) -> Call<'a> {
     let (first, rest) = text.split_once('\n').unwrap_or((text, ""));
     match first {
         "migrate" => Call::Migrate,
+        "count" | "move" => Call::Tables(first),
         "execute" => Call::Execute(rest),
         _ => Call::Ask(rules, text),
     }
@@ -67,6 +72,28 @@ fn execute<S: Alter>(connection: &mut Connection<S>, statements: &str) -> End {
     }
 }
 
+fn act_on<S: Alter + Drop>(
+    mut connection: Connection<S>,
+    call: Call<'_>,
+    output: &mut Vec<u8>,
+) -> (Connection<S>, End) {
+    match call {
+        Call::Tables(name) => {
+            let mut tables = Tables::new(connection);
+            let end = match told(&mut tables, name) {
+                Ok(line) => end_of_line(line, output),
+                Err(fault) => end_of_fault(fault),
+            };
+            (tables.into_connection(), end)
+        }
+        Call::Execute(statements) => {
+            let end = execute(&mut connection, statements);
+            (connection, end)
+        }
+        Call::Ask(..) | Call::Migrate => (connection, End::Other),
+    }
+}
+
 // These stand alone: a function that calls what is generic over a store with that of files is dear to prove.
 
 /// Asks a desk in files.
@@ -80,11 +107,12 @@ pub fn ask_in_files<D: Disk + Drop>(
     ask_store(alloc, desk, rules, request, output)
 }
 
-fn execute_in_files<D: Disk + Drop>(
-    connection: &mut Connection<FileStore<D>>,
-    statements: &str,
-) -> End {
-    execute(connection, statements)
+fn act_in_files<D: Disk + Drop>(
+    connection: Connection<FileStore<D>>,
+    call: Call<'_>,
+    output: &mut Vec<u8>,
+) -> (Connection<FileStore<D>>, End) {
+    act_on(connection, call, output)
 }
 
 /// Closes a desk, whether or not its log can be copied, and says whether it could.
@@ -122,13 +150,18 @@ fn ask<D: Disk + Drop>(
     }
 }
 
-fn connect<D: Disk + Drop>(alloc: Global, files: Files<D>, statements: &str) -> (Files<D>, End)
+fn connect<D: Disk + Drop>(
+    alloc: Global,
+    files: Files<D>,
+    call: Call<'_>,
+    output: &mut Vec<u8>,
+) -> (Files<D>, End)
     requires log { IsTrue (D.Disk.is_usable files.log) }
     requires db { IsTrue (D.Disk.is_usable files.db) }
 {
     match Connection::open_files(alloc, files, OPTIONS) {
-        Ok(mut connection) => {
-            let end = execute_in_files(&mut connection, statements);
+        Ok(connection) => {
+            let (connection, end) = act_in_files(connection, call, output);
             (close_connection(connection), end)
         }
         Err((error, left)) => (left.into_files(), end_of_fault(fault_of(error))),
@@ -161,7 +194,7 @@ fn opened_for<D: Disk + Drop>(
     match call {
         Call::Ask(rules, request) => ask(alloc, files, rules, request, output),
         Call::Migrate => migrate(alloc, files, output),
-        Call::Execute(statements) => connect(alloc, files, statements),
+        Call::Tables(_) | Call::Execute(_) => connect(alloc, files, call, output),
     }
 }
 

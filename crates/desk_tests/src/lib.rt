@@ -7,6 +7,8 @@ mod asking;
 #[cfg(test)]
 mod cases;
 #[cfg(test)]
+mod catalogues;
+#[cfg(test)]
 mod desks;
 #[cfg(test)]
 mod disks;
@@ -20,3 +22,5 @@ mod refusals;
 mod stores;
 #[cfg(test)]
 mod streams;
+#[cfg(test)]
+mod table_calls;

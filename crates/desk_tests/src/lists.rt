@@ -10,6 +10,7 @@ pub mod drain;
 pub mod exchanges;
 pub mod questions;
 pub mod steps;
+pub mod tables;
 pub mod versions;
 
 use crate::asking::{End, Taken, expect_asked};

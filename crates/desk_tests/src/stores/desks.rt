@@ -1,5 +1,5 @@
-//! The lists of requests, of desks of all kinds, and files of version 1. `tests/refused-memory` refuses each
-//! request for memory of these tests in turn.
+//! The lists of requests, of desks of all kinds, and the calls that are made of files alone.
+//! `tests/refused-memory` refuses each request for memory of these tests in turn.
 
 use crate::cases::{expect, made};
 use crate::desks::{TestDesk, opened};
@@ -9,6 +9,7 @@ use crate::lists::exchanges::EXCHANGES;
 use crate::lists::expect_list;
 use crate::lists::questions::QUESTIONS;
 use crate::lists::steps::STEPS;
+use crate::lists::tables::{DRAINED_ROWS, MOVED_ROWS};
 use crate::lists::versions::{FIRST_FILES, MIGRATION};
 use crate::refusals::{Refusals, are_chosen};
 use desk_memory::MemoryDesk;
@@ -90,7 +91,16 @@ fn desk_in_files(rt: HostRuntime) {
     ask_lists::<FileDesk, HostRuntime>(rt.alloc(), &rt);
 }
 
+// The lists of calls that are made of files alone.
+fn make_calls<D: TestDesk + Drop, R: Abort + Env>(alloc: Global, rt: &R) {
+    let migration = ask_behind::<D, R>(alloc, rt, FIRST_FILES, "migration", MIGRATION);
+    let rows = ask_behind_forty::<D, R>(alloc, rt, "rows", DRAINED_ROWS);
+    let moved = ask_list::<D, R>(alloc, rt, "moved", MOVED_ROWS);
+    let is_one = migration | rows | moved;
+    expect(rt, is_one, "no cases of this name");
+}
+
 #[test]
-fn migration(rt: HostRuntime) {
-    ask_behind::<FileDesk, HostRuntime>(rt.alloc(), &rt, FIRST_FILES, "migration", MIGRATION);
+fn tables_in_files(rt: HostRuntime) {
+    make_calls::<FileDesk, HostRuntime>(rt.alloc(), &rt);
 }

@@ -15,18 +15,22 @@ use sqlite::Alter;
 // The record that is put back.
 const REFERENCE: &str = "R1";
 
-// How many of the numbers from 1 to 41 have been applied.
-fn applied<S: Alter>(work: &mut Work<'_, S>, north: &SeriesName) -> Result<usize, StoreFault> {
-    let mut count = 0;
+// Whether each of the numbers from 1 to 41 has been applied, or none has.
+fn are_applied<S: Alter>(
+    work: &mut Work<'_, S>,
+    north: &SeriesName,
+    wanted: bool,
+) -> Result<bool, StoreFault> {
     for value in 1..=41u32 {
         let Some(number) = Number::from_value(value) else {
             return Err(StoreFault::Size);
         };
-        if work.applied_at(north, number)?.is_some() {
-            count += 1;
+        let found = work.applied_at(north, number)?;
+        if found.is_some() != wanted {
+            return Ok(false);
         }
     }
-    Ok(count)
+    Ok(true)
 }
 
 fn held<S: Alter>(work: &mut Work<'_, S>, north: &SeriesName) -> Result<usize, StoreFault> {
@@ -37,12 +41,13 @@ fn held<S: Alter>(work: &mut Work<'_, S>, north: &SeriesName) -> Result<usize, S
 // Which of the forty messages and the first wait, and which are applied.
 fn count<S: Alter>(work: &mut Work<'_, S>, north: &SeriesName) -> Result<&'static str, StoreFault> {
     let held = held(work, north)?;
-    let applied = applied(work, north)?;
-    Ok(match (held, applied) {
-        (40, 0) => "40 wait",
-        (0, 41) => "41 are applied",
-        _ => "some are applied",
-    })
+    if held == 40 && are_applied(work, north, false)? {
+        return Ok("40 wait");
+    }
+    if held == 0 && are_applied(work, north, true)? {
+        return Ok("41 are applied");
+    }
+    Ok("some are applied")
 }
 
 fn put_articles<S: Alter>(work: &mut Work<'_, S>, rows: &[ArticleRow]) -> Result<(), StoreFault> {

@@ -1,6 +1,6 @@
 -- A Price: the record that is written of it, or why it is left out.
 use Prim.Native.String.{String}
-use Rattle.std.specs.Prelude.{ℕ, Bool, false, ◌&&◌, ◌||◌, nat_lt}
+use Rattle.std.specs.Prelude.{◌≡◌, ℕ, Bool, false, ◌&&◌, ◌||◌, nat_lt}
 use Rattle.std.specs.Prelude.{List, [], ◌∷◌, ◌++◌, Option, Some, None, if◌then◌else◌, codes}
 use Rattle.std.specs.Prelude.{find, fold, map, not, option_map, is_none, is_some}
 use Rattle.std.specs.List.{flat_map, list_any}
@@ -23,8 +23,8 @@ use Rattle.feed_mapping.specs.Elements.{Composite, composites, each_at, first, s
 use Rattle.feed_mapping.specs.Narrower.{all_excluded, countries_without, excluded_then}
 use Rattle.feed_mapping.specs.Notes.{Note, Reason, Reasons, foreign, is_wrong, note}
 use Rattle.feed_mapping.specs.Notes.{wrong}
-use Rattle.feed_mapping.specs.Outcomes.{Outcome, nothing, written_unless}
-use Rattle.feed_mapping.specs.Records.{Fields, desk_reason, first_some, option_filter, parsed}
+use Rattle.feed_mapping.specs.Outcomes.{Outcome, nothing, notes_below, outcome_records, written_unless}
+use Rattle.feed_mapping.specs.Records.{Fields, Records, desk_reason, first_some, option_filter, parsed}
 use Rattle.feed_mapping.specs.Records.{parsed_term}
 use Rattle.feed_mapping.specs.Records.{invalid}
 use Rattle.feed_mapping.specs.Regions.{countries_written, names_world}
@@ -299,6 +299,14 @@ abbrev pub outcome_of : Option Reason → PriceContext → Nodes → Outcome
 outcome_of reason context nodes =
     written_unless reason ((codes "Price" ∷ written_fields context nodes) ∷ [])
     (territory_notes (area_in nodes) ++ counted_notes nodes)
+
+-- a call left a Price out for this reason, or added its record and the notes on what is below it
+abbrev pub AddsUnless : Option Reason → PriceContext → Nodes → Option Reason → Records → Records
+    → List Note → List Note → Type 0
+AddsUnless reason context nodes given records_before records notes_before notes =
+    (given ≡ reason)
+    × ((records ≡ records_before ++ outcome_records (outcome_of reason context nodes))
+    × (notes ≡ notes_before ++ notes_below (outcome_of reason context nodes)))
 
 module _ (context : PriceContext) (nodes : Nodes) where
   -- A Price without an amount and without PriceCoded is nothing, whatever else stands in it, where

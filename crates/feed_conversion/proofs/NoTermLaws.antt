@@ -19,12 +19,12 @@ use Rattle.feed_conversion.specs.declared.refusal.Refusal.TheVariants as why
 
 -- what is known of each Product
 pub record SaysNothing : Type 0 where
-  pub records : (o : Opening) (choices : SupplyChoices) (c : Composite)
-      → product_records o (choices_by (Some []) choices) c.below ≡ product_records o (choices_by None choices) c.below
-  pub notes : (o : Opening) (choices : SupplyChoices) (c : Composite)
-      → product_notes o (choices_by (Some []) choices) c ≡ product_notes o (choices_by None choices) c
-  pub fate : (o : Opening) (choices : SupplyChoices) (c : Composite)
-      → fate_of o (choices_by (Some []) choices) c.below ≡ fate_of o (choices_by None choices) c.below
+  pub records : (o : Opening) (choices : SupplyChoices) (nodes : Nodes)
+      → product_records o (choices_by (Some []) choices) nodes ≡ product_records o (choices_by None choices) nodes
+  pub notes : (o : Opening) (choices : SupplyChoices) (nodes : Nodes)
+      → product_notes o (choices_by (Some []) choices) nodes ≡ product_notes o (choices_by None choices) nodes
+  pub fate : (o : Opening) (choices : SupplyChoices) (nodes : Nodes)
+      → fate_of o (choices_by (Some []) choices) nodes ≡ fate_of o (choices_by None choices) nodes
 
 module _ (says : SaysNothing) (o : Options) where
   product_same : (h : Heading) (header : Nodes) (w : Packing) (c : Composite)
@@ -33,9 +33,9 @@ module _ (says : SaysNothing) (o : Options) where
       let t = settings (by_terms None o) h header in
       let chosen = supply_choices (by_terms None o) in
       λ i.
-      let records = says.records h.opening chosen c i in
-      let notes = says.notes h.opening chosen c i in
-      with_variants t (seen t w c) c (variant records notes ∷ smaller_variants (says.fate h.opening chosen c i) notes c)
+      let records = says.records h.opening chosen c.below i in
+      let notes = says.notes h.opening chosen c.below i in
+      with_variants t (seen t w c) c (variant records notes ∷ smaller_variants (says.fate h.opening chosen c.below i) notes c.below)
 
   header_same : (header : Composite) (rest : Nodes) (r : Result Heading HeaderRefusal)
       → after_header (by_terms (Some []) o) header rest r ≡ after_header (by_terms None o) header rest r

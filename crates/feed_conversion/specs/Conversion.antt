@@ -1,5 +1,4 @@
--- What an ONIX message says to the desk: messages that the desk takes and notes on what is left
--- out, or why it is refused.
+-- What an ONIX message says to the desk: messages that the desk takes, or why it is refused.
 use Rattle.std.specs.Prelude.{ℕ, ◌+◌, List, ◌∷◌, Option, Some, None}
 use Rattle.std.specs.Prelude.{Result, Ok, Err, if◌then◌else◌, codes, decimal}
 use Rattle.std.specs.Option.{option_map_or}

@@ -136,9 +136,8 @@ pub(crate) fn hand_on<T: Target>(
     text: &mut Vec<u8>,
     target: &mut T,
 ) -> Result<(), AllocError>
-    ensures parts { OnOk result (T.parts target.new
-        ≡ with_part T.keeping most full (text.old.items ++ end_text count) (T.parts target.old)) }
-    ensures notes { OnOk result (T.notes target.new ≡ T.notes target.old) }
+    ensures { OnOk result (T.parts target.new
+        ≡ with_part T.with_part most full (text.old.items ++ end_text count) (T.parts target.old)) }
 {
     if full >= most {
         return Ok(());
@@ -189,10 +188,10 @@ fn keep_text<T: Target>(
     text: &str,
 ) -> Result<bool, AllocError>
     ensures { IfOk result (λ is. IsKept is
-        (stored (begun_view begun.old) (T.parts target.old) (T.notes target.old))
-        (stored (begun_view begun.new) (T.parts target.new) (T.notes target.new))
-        (kept T.keeping most
-        (stored (begun_view begun.old) (T.parts target.old) (T.notes target.old))
+        (stored (begun_view begun.old) (T.parts target.old))
+        (stored (begun_view begun.new) (T.parts target.new))
+        (kept T.with_part most
+        (stored (begun_view begun.old) (T.parts target.old))
         place more text.now)) }
 {
     if has_room(alloc, begun.count, begun.text.len(), more, text.len())? {
@@ -229,10 +228,10 @@ pub(crate) fn keep<T: Target>(
     records: &RecordBuffer,
 ) -> Result<bool, AllocError>
     ensures { IfOk result (λ is. IsKept is
-        (stored (begun_view begun.old) (T.parts target.old) (T.notes target.old))
-        (stored (begun_view begun.new) (T.parts target.new) (T.notes target.new))
-        (kept T.keeping most
-        (stored (begun_view begun.old) (T.parts target.old) (T.notes target.old))
+        (stored (begun_view begun.old) (T.parts target.old))
+        (stored (begun_view begun.new) (T.parts target.new))
+        (kept T.with_part most
+        (stored (begun_view begun.old) (T.parts target.old))
         place (length records.now) (records_text records.now))) }
 {
     let text = write_records(alloc, &records.as_records())?;

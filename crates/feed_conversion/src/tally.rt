@@ -102,7 +102,7 @@ fn has_wrong(notes: &[Note<'_>]) -> bool
 {
     let mut rest = notes;
     while let [note, tail @ ..] = rest {
-        if note.reason.kind.is_wrong() {
+        if !note.is_aside && note.reason.kind.is_wrong() {
             return true;
         }
         rest = tail;
@@ -116,7 +116,7 @@ fn is_of_others(notes: &[Note<'_>]) -> bool
 {
     let mut rest = notes;
     while let [note, tail @ ..] = rest {
-        if note.reason.kind.is_of_others() {
+        if !note.is_aside && note.reason.kind.is_of_others() {
             return true;
         }
         rest = tail;

@@ -181,7 +181,7 @@ pub(crate) fn is_of_others(notes: &[Note<'_>]) -> bool
 {
     let mut rest = notes;
     while let [note, tail @ ..] = rest {
-        if note.reason.kind.is_of_others() {
+        if !note.is_aside && note.reason.kind.is_of_others() {
             return true;
         }
         rest = tail;

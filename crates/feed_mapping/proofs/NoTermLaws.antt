@@ -1,7 +1,7 @@
 -- What comes of a Product with a table of no term, or one none of whose terms fits.
 use Rattle.std.proofs.Common.{◌≡◌, ℕ, Bool, List, [], ◌∷◌, ◌++◌, Option, Some, None, map, refl, ap, ◌∙◌}
 use Rattle.std.specs.Prelude.{codes, filter, if◌then◌else◌, is_some, not, option_map, ◌==◌}
-use Rattle.std.specs.List.{AllByRecursion, flat_map}
+use Rattle.std.specs.List.{AllByRecursion}
 use Rattle.std.specs.Option.{option_map_or, option_or}
 use Rattle.feed_outline.specs.Nodes.{Nodes}
 use Rattle.onix_records.specs.declared.row.Opening.{Opening}
@@ -9,16 +9,16 @@ use Rattle.feed_terms.specs.Computed.{computed_by}
 use Rattle.feed_terms.specs.Fits.{fitting}
 use Rattle.feed_terms.specs.HeldBack.{is_held_back}
 use Rattle.feed_terms.specs.Laws.{NothingByNoTerms}
-use Rattle.feed_terms.specs.WithTerms.{computed_record, remarks_of, with_all}
+use Rattle.feed_terms.specs.WithTerms.{computed_record, with_all}
 use Rattle.feed_terms.specs.declared.computed.ComputedPrice.{ComputedPrice}
 use Rattle.feed_terms.specs.declared.price.GivenPrice.{GivenPrice}
 use Rattle.feed_terms.specs.declared.term.Term.{Term}
-use Rattle.feed_mapping.specs.Details.{context_in, detail_fields, detail_outcome, detail_reason, price_in, priced_notes, priced_records, prices_in, supplier_id}
-use Rattle.feed_mapping.specs.Elements.{Composite, Element, each_at, first}
-use Rattle.feed_mapping.specs.Notes.{Note, Reason, foreign, note, wrong}
+use Rattle.feed_mapping.specs.Details.{context_in, detail_fields, detail_outcome, detail_reason, price_in, priced_records, prices_in, supplier_id}
+use Rattle.feed_mapping.specs.Elements.{Composite, each_at, first}
+use Rattle.feed_mapping.specs.Notes.{Reason, foreign, wrong}
 use Rattle.feed_mapping.specs.Outcomes.{Outcome, all_notes, all_records, left_out, nothing, notes_below, outcome_reason, outcome_records, written_unless}
 use Rattle.feed_mapping.specs.Parties.{Pair}
-use Rattle.feed_mapping.specs.PriceTerms.{all_given, all_remark_notes, closed_kinds, elements_in, supplier_of}
+use Rattle.feed_mapping.specs.PriceTerms.{all_given, closed_kinds, supplier_of}
 use Rattle.feed_mapping.specs.ProductRecords.{fate_by, fate_of, notification_written, product_notes, product_records, supplies_in, written_notes}
 use Rattle.feed_mapping.specs.Products.{emptied_record, identifier_notes, own_reason, product_record, reference_in, right_pairs}
 use Rattle.feed_mapping.specs.Records.{Records, first_some, if_empty, is_field, option_filter}
@@ -56,30 +56,17 @@ none-fits o terms preferred nodes none =
 
 -- ---- a table of no term
 
-no_remarks : (supplier : Option (List ℕ)) (held : GivenPrice → ComputedPrice → Bool) (elements : List Element) (given : List GivenPrice)
-    → all_remark_notes elements (map (remarks_of [] supplier held) given) ≡ []
-no_remarks supplier held [] given = refl
-no_remarks supplier held (element ∷ elements) [] = refl
-no_remarks supplier held (element ∷ elements) (g ∷ given) = no_remarks supplier held elements given
-
 module _ (by_none : NothingByNoTerms) (o : Opening) where
   records_same : (preferred : List ℕ) (nodes : Nodes) → priced_records o (Some []) preferred nodes ≡ priced_records o None preferred nodes
   records_same preferred nodes =
       by_none (supplier_of (supplier_id preferred nodes)) (closed_kinds (context_in o nodes) (prices_in nodes)) (all_given (context_in o nodes) (prices_in nodes))
       (all_records (price_in o nodes) (prices_in nodes))
 
-  notes_same : (preferred : List ℕ) (nodes : Nodes) → priced_notes o (Some []) preferred nodes ≡ priced_notes o None preferred nodes
-  notes_same preferred nodes =
-      let context = context_in o nodes in
-      let given = all_given context (prices_in nodes) in
-      let supplier = supplier_of (supplier_id preferred nodes) in
-      no_remarks supplier (is_held_back [] supplier given (closed_kinds context (prices_in nodes))) (flat_map (elements_in context) (prices_in nodes)) given
-
   details_same : (choices : SupplyChoices) → detail_outcome o (by_terms (Some []) choices) ≡ detail_outcome o (by_terms None choices)
   details_same choices =
       λ i nodes. written_unless (detail_reason choices.preferred nodes)
       ((codes "SupplyDetail" ∷ detail_fields choices.preferred nodes) ∷ records_same choices.preferred nodes i)
-      (all_notes (price_in o nodes) (prices_in nodes) ++ notes_same choices.preferred nodes i)
+      (all_notes (price_in o nodes) (prices_in nodes))
 
   supplies_same : (choices : SupplyChoices) → supply_outcome o (by_terms (Some []) choices) ≡ supply_outcome o (by_terms None choices)
   supplies_same choices =
@@ -103,35 +90,35 @@ module _ (supplier : Option Pair) (supply : Nodes → Outcome) where
   why_by : Nodes → Option Reason
   why_by nodes = option_or (own_reason supplier nodes) (supplies_reason_by (supplies_in nodes))
 
-  fate_in : Composite → Fate
-  fate_in c = if is_field (reference_in c.below) then fate_by (why_by c.below) else fate.LeftOut
+  fate_in : Nodes → Fate
+  fate_in nodes = if is_field (reference_in nodes) then fate_by (why_by nodes) else fate.LeftOut
 
   written_by : Option Reason → Nodes → Records
   written_by (Some reason) nodes = emptied_record nodes ∷ []
   written_by None nodes = product_record (notification_written supplier nodes) (right_pairs nodes) nodes ∷ all_records (λ s. supply s.below) (supplies_in nodes)
 
-  records_in : Composite → Records
-  records_in c = if is_field (reference_in c.below) then written_by (why_by c.below) c.below else []
+  records_in : Nodes → Records
+  records_in nodes = if is_field (reference_in nodes) then written_by (why_by nodes) nodes else []
 
-  notes_in : Composite → List Note
-  notes_in c =
-      if is_field (reference_in c.below)
-      then identifier_notes c.below
-      ++ option_map_or (λ reason. note c.element reason ∷ [])
-      (own_reason supplier c.below)
-      (all_notes (λ s. supply s.below) (supplies_in c.below)
-      ++ option_map_or (λ reason. note c.element reason ∷ []) (supplies_reason_by (supplies_in c.below)) (written_notes supplier c.below c.element))
-      else note c.element (wrong bad.RecordReference (reference_in c.below)) ∷ []
+  notes_in : Nodes → List Reason
+  notes_in nodes =
+      if is_field (reference_in nodes)
+      then identifier_notes nodes
+      ++ option_map_or (λ reason. reason ∷ [])
+      (own_reason supplier nodes)
+      (all_notes (λ s. supply s.below) (supplies_in nodes)
+      ++ option_map_or (λ reason. reason ∷ []) (supplies_reason_by (supplies_in nodes)) (written_notes supplier nodes))
+      else wrong bad.RecordReference (reference_in nodes) ∷ []
 
-module _ (by_none : NothingByNoTerms) (o : Opening) (choices : SupplyChoices) (c : Composite) where
-  pub same-fate : fate_of o (by_terms (Some []) choices) c.below ≡ fate_of o (by_terms None choices) c.below
+module _ (by_none : NothingByNoTerms) (o : Opening) (choices : SupplyChoices) (nodes : Nodes) where
+  pub same-fate : fate_of o (by_terms (Some []) choices) nodes ≡ fate_of o (by_terms None choices) nodes
   unfolding fate_in why_by supplies_reason_by
-  same-fate = λ i. fate_in choices.supplier (supplies_same by_none o choices i) c
+  same-fate = λ i. fate_in choices.supplier (supplies_same by_none o choices i) nodes
 
-  pub same-records : product_records o (by_terms (Some []) choices) c.below ≡ product_records o (by_terms None choices) c.below
+  pub same-records : product_records o (by_terms (Some []) choices) nodes ≡ product_records o (by_terms None choices) nodes
   unfolding records_in written_by why_by supplies_reason_by
-  same-records = λ i. records_in choices.supplier (supplies_same by_none o choices i) c
+  same-records = λ i. records_in choices.supplier (supplies_same by_none o choices i) nodes
 
-  pub same-notes : product_notes o (by_terms (Some []) choices) c ≡ product_notes o (by_terms None choices) c
+  pub same-notes : product_notes o (by_terms (Some []) choices) nodes ≡ product_notes o (by_terms None choices) nodes
   unfolding notes_in supplies_reason_by
-  same-notes = λ i. notes_in choices.supplier (supplies_same by_none o choices i) c
+  same-notes = λ i. notes_in choices.supplier (supplies_same by_none o choices i) nodes

@@ -4,7 +4,6 @@
 ghost use Rattle.std.specs.Prelude.{◌≡◌, ◌+◌, ◌<◌, ◌≤◌, ◌++◌, [], ℕ, List, None, Ok, Some, length};
 ghost use Rattle.feed_mapping.specs.Header.{Choices, Heading, heading_in};
 ghost use Rattle.std.specs.List.{AllByRecursion};
-ghost use Rattle.feed_mapping.specs.Elements.{Composite};
 ghost use Rattle.feed_mapping.specs.ProductRecords.{fate_of, product_notes, product_records, variants};
 ghost use Rattle.feed_mapping.specs.Details.{detail_outcome, priced_records};
 ghost use Rattle.feed_mapping.specs.Outcomes.{outcome_reason};
@@ -47,9 +46,9 @@ pub fn parts_say_the_same()
 /// are those of several Products, one after the other. With a first record and an end they are a
 /// message, if they are not too many.
 pub fn records_are_products()
-    ensures one { (o : Opening) (choices : SupplyChoices) (c : Composite)
+    ensures one { (o : Opening) (choices : SupplyChoices) (nodes : Nodes)
         → MayCompute o choices.terms → AllByRecursion
-        (λ f. AreOf o f.records (references_of c.below)) (variants o choices c) }
+        (λ f. AreOf o f.records (references_of nodes)) (variants o choices nodes) }
     ensures none { (o : Opening) → AreProducts o [] [] }
     ensures joined { (o : Opening) (a b : List (List (List ℕ))) (c d : List Product)
         → AreProducts o a c → AreProducts o b d → AreProducts o (a ++ b) (c ++ d) }
@@ -73,8 +72,8 @@ pub fn prices_stand_or_are_told()
     ensures supplies { (o : Opening) (choices : SupplyChoices) (nodes : Nodes)
         → outcome_reason (supply_outcome o choices nodes) ≡ None
         → HasDetails o choices nodes }
-    ensures products { (o : Opening) (choices : SupplyChoices) (c : Composite)
-        → fate_of o choices c.below ≡ Fate.Written → HasSupplies o choices c }
+    ensures products { (o : Opening) (choices : SupplyChoices) (nodes : Nodes)
+        → fate_of o choices nodes ≡ Fate.Written → HasSupplies o choices nodes }
 {}
 
 /// The terms of the shop only add records behind those of Prices: of a SupplyDetail the records
@@ -99,15 +98,15 @@ pub fn terms_only_add()
 /// A table of no term says nothing: the records of a Product, the notes on it, and whether it is
 /// written, emptied or left out, are as without terms.
 pub fn no_term_says_nothing()
-    ensures records { (o : Opening) (choices : SupplyChoices) (c : Composite)
-        → product_records o (by_terms (Some []) choices) c.below
-        ≡ product_records o (by_terms None choices) c.below }
-    ensures notes { (o : Opening) (choices : SupplyChoices) (c : Composite)
-        → product_notes o (by_terms (Some []) choices) c
-        ≡ product_notes o (by_terms None choices) c }
-    ensures fate { (o : Opening) (choices : SupplyChoices) (c : Composite)
-        → fate_of o (by_terms (Some []) choices) c.below
-        ≡ fate_of o (by_terms None choices) c.below }
+    ensures records { (o : Opening) (choices : SupplyChoices) (nodes : Nodes)
+        → product_records o (by_terms (Some []) choices) nodes
+        ≡ product_records o (by_terms None choices) nodes }
+    ensures notes { (o : Opening) (choices : SupplyChoices) (nodes : Nodes)
+        → product_notes o (by_terms (Some []) choices) nodes
+        ≡ product_notes o (by_terms None choices) nodes }
+    ensures fate { (o : Opening) (choices : SupplyChoices) (nodes : Nodes)
+        → fate_of o (by_terms (Some []) choices) nodes
+        ≡ fate_of o (by_terms None choices) nodes }
 {
     nothing_by_no_terms();
 }

@@ -6,7 +6,7 @@ ghost use Rattle.std.specs.Option.{option_copied, option_to_list};
 ghost use Rattle.std.specs.Str.{is_utf8};
 ghost use Rattle.feed_mapping.specs.Elements.{composites, first, text_or_empty};
 ghost use Rattle.feed_mapping.specs.Notes.{foreign, is_wrong, note_views, wrong};
-ghost use Rattle.feed_mapping.specs.Outcomes.{notes_below, outcome_notes, outcome_records};
+ghost use Rattle.feed_mapping.specs.Outcomes.{outcome_notes, outcome_records};
 ghost use Rattle.feed_mapping.specs.PriceViews.{AreOwned, reason_read, text_view};
 ghost use Rattle.feed_mapping.specs.Amounts.{amount_written, rounded_text};
 ghost use Rattle.feed_mapping.specs.Prices.{AddsUnless, closed_reason, context_view, first_with_text, is_other_qualifier, is_taken, kind_in, last_reason, long_reason, narrowed, written_fields, early_reasons, eight_fields, fields_in, free_reason, is_for_others, is_limited, is_nothing, is_other, late_reasons, old_element, outcome_of, price_fields, price_outcome, price_reasons, right_days};
@@ -690,8 +690,7 @@ pub(crate) fn add_price<'a>(
     ensures records { OnOk result (records.new ≡ records.old
         ++ outcome_records (price_outcome (context_view context.now) price.now.below)) }
     ensures notes { OnOk result (note_views notes.new.items ≡ note_views notes.old.items
-        ++ outcome_notes price.now.element
-        (price_outcome (context_view context.now) price.now.below)) }
+        ++ outcome_notes (price_outcome (context_view context.now) price.now.below)) }
 {
     if is_nothing(context, &price.below) {
         return Ok(());

@@ -71,12 +71,3 @@ module _ (supplier : Option (List ℕ)) (given : GivenPrice) where
   -- the first term that fits
   abbrev pub fitting : List Term → Option Term
   fitting terms = find fits terms
-
--- whether a term is for this type and currency
-abbrev pub is_for : List ℕ → List ℕ → Term → Bool
-is_for price_type currency term =
-    is_among term.types price_type && is_asked term.currency (Some currency)
-
--- whether a table has a term for the type and currency of a price
-abbrev pub is_of_table : List Term → GivenPrice → Bool
-is_of_table terms given = list_any (is_for given.price.price_type given.price.currency) terms

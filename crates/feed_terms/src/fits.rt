@@ -2,7 +2,7 @@
 
 ghost use Rattle.std.specs.Prelude.{◌≡◌, IfOk};
 ghost use Rattle.std.specs.Option.{option_copied};
-ghost use Rattle.feed_terms.specs.Fits.{fits_besides, has_discount, has_tax, is_among, is_asked, is_for, supplier_text};
+ghost use Rattle.feed_terms.specs.Fits.{fits_besides, has_discount, has_tax, is_among, is_asked, supplier_text};
 
 use crate::percent::Percent;
 use crate::price::{Discount, GivenPrice};
@@ -58,9 +58,7 @@ fn is_currency(asked: Option<Currency>, currency: Currency) -> bool
 }
 
 /// Whether a term is for this type and currency.
-pub(crate) fn is_for(term: &Term, price_type: Code2, currency: Currency) -> bool
-    ensures { result ≡ is_for price_type currency term.now }
-{
+pub(crate) fn is_for(term: &Term, price_type: Code2, currency: Currency) -> bool {
     has_type(term.types.as_slice(), price_type) && is_currency(term.currency, currency)
 }
 

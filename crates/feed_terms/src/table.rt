@@ -97,7 +97,7 @@ impl Model for Terms {
 
 impl Terms {
     ghost use Rattle.std.specs.Prelude.{IfErr, Ok, option_map};
-    ghost use Rattle.feed_terms.specs.Fits.{fitting, is_of_table};
+    ghost use Rattle.feed_terms.specs.Fits.{fitting};
     ghost use Rattle.feed_terms.specs.TermsFile.{Explains, table_of};
 
     /// The table without terms. It does not allocate.
@@ -153,9 +153,7 @@ impl Terms {
     }
 
     /// Whether the table has a term for the type and the currency of a price.
-    pub fn is_for(&self, given: &GivenPrice) -> bool
-        ensures { result ≡ is_of_table self.now given.now }
-    {
+    pub fn is_for(&self, given: &GivenPrice) -> bool {
         let price_type = given.price.price_type;
         let currency = given.price.currency;
         self.terms

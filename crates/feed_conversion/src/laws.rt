@@ -1,15 +1,15 @@
 //! What the definitions of the conversion come to. Each law is the contract of a function that does
 //! nothing.
 
-ghost use Rattle.std.specs.Prelude.{◌≡◌, [], None, Ok, Some};
+ghost use Rattle.std.specs.Prelude.{◌≡◌, Ok};
 ghost use Rattle.feed_outline.specs.Nodes.{Nodes};
 ghost use Rattle.feed_mapping.specs.Rows.{HaveCodes};
-ghost use Rattle.feed_conversion.specs.Conversion.{Options, by_terms, conversion};
+ghost use Rattle.feed_conversion.specs.Conversion.{Options, conversion};
 ghost use Rattle.feed_conversion.specs.Packing.{Converted};
 ghost use Rattle.feed_conversion.specs.Parts.{AreParts};
 
 use csv_records::laws::one_text;
-use feed_mapping::laws::{no_term_says_nothing, parts_say_the_same, records_are_products};
+use feed_mapping::laws::{parts_say_the_same, records_are_products};
 
 /// The products of a message, each once and in order, stand in its parts, one part after the other
 /// and each in the first of its variants that is not too large, as many as there is room for; one
@@ -24,13 +24,4 @@ pub fn products_stand_in_parts()
     one_text();
     parts_say_the_same();
     records_are_products();
-}
-
-/// With a table of no term what comes of a message is what comes of it without terms: the same
-/// parts and notes, or the same refusal.
-pub fn no_term_converts_as_none()
-    ensures { (o : Options) (nodes : Nodes)
-        → conversion (by_terms (Some []) o) nodes ≡ conversion (by_terms None o) nodes }
-{
-    no_term_says_nothing();
 }

@@ -36,11 +36,6 @@ abbrev pub has_code : Term → List SaidCode → Bool
 has_code term said =
     option_map_or (λ asked. list_any (takes_code asked term.scheme) said) term.codes true
 
--- whether a term takes the scheme of a DiscountCoded, where it goes by one
-abbrev pub takes_scheme : Option (List ℕ) → Option (List ℕ) → Bool
-takes_scheme asked None = true
-takes_scheme asked (Some said) = is_asked asked (Some said)
-
 -- whether a Discount says a percent, where a term goes by it
 abbrev pub has_discount : Rate → List Discount → Bool
 has_discount (Fixed percent) discounts = true
@@ -59,10 +54,6 @@ module _ (supplier : Option (List ℕ)) (given : GivenPrice) where
       is_among term.types given.price.price_type && is_asked term.supplier supplier
       && is_asked term.currency (Some given.price.currency)
       && has_discount term.percent given.discounts && has_tax term.tax given.tax
-
-  -- the same by a DiscountCoded of this scheme, or by none
-  abbrev pub fits_by : Option (List ℕ) → Term → Bool
-  fits_by scheme term = takes_scheme term.scheme scheme && fits_besides term
 
   -- whether a term fits a price of that supplier: none fits one that is garbled
   abbrev pub fits : Term → Bool

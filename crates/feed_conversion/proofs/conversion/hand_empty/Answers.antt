@@ -9,4 +9,4 @@ loop-before-preserved g c =
     let text : c.into_bytes-text.result.items ≡ first_text (begun_view c.args.begun.now) c.loop-before.before =
     rw c.into_bytes-text.ensures.value c.in_ok-first_text.ensures in
     one_more g.T.Target.with_part (begun_view c.args.begun.now) c.args.most c.loop-before.before _ _ _ c.into_bytes-text.result.items c.loop-before-test.true text
-          c.in_ok-hand_on.ensures c.loop-before.invariant
+    c.in_ok-hand_on.ensures c.loop-before.invariant

@@ -204,13 +204,19 @@ fn push_closed(
     Ok(())
 }
 
+// Where a Price stands.
+#[derive(Clone, Copy)]
+struct Place<'a> {
+    line: &'a Line,
+}
+
 // Of the Prices of a SupplyDetail those that are written: the record of each, what the terms see of
-// it, and its line; and the type and currency of those that are not, unless they are for others.
+// it, and its place; and the type and currency of those that are not, unless they are for others.
 #[derive(Drop)]
 struct WrittenPrices<'a> {
     records: RecordBuffer,
     given: Vec<GivenPrice>,
-    lines: Vec<&'a Line>,
+    places: Vec<Place<'a>>,
     closed: Vec<Kind>,
 }
 
@@ -244,7 +250,7 @@ fn add_written<'a>(
     };
     let given = given_of(alloc, said, &written.records.record(count), &price.below)?;
     written.given.push(given)?;
-    written.lines.push(price.line)?;
+    written.places.push(Place { line: price.line })?;
     Ok(())
 }
 
@@ -265,7 +271,7 @@ fn written_in<'a>(
     let mut written = WrittenPrices {
         records: RecordBuffer::new(alloc),
         given: Vec::new(alloc),
-        lines: Vec::new(alloc),
+        places: Vec::new(alloc),
         closed: Vec::new(alloc),
     };
     let mut rest = elements.copy();
@@ -324,21 +330,21 @@ fn push_remarks<'a>(
     push_held(remarks.held, line, notes)
 }
 
-// Adds the asides on the Prices of these lines, of each of which that is said.
+// Adds the asides on Prices in these places, of each of which that is said.
 fn push_all_remarks<'a>(
-    lines: &[&'a Line],
+    places: &[Place<'a>],
     remarks: &[Remarks],
     notes: &mut Vec<Note<'a>>,
 ) -> Result<(), AllocError>
     ensures { OnOk result (note_views notes.new.items ≡ note_views notes.old.items) }
 {
-    let mut rest = lines;
+    let mut rest = places;
     let mut left = remarks;
-    while let [line, others @ ..] = rest {
+    while let [place, others @ ..] = rest {
         let [said, more @ ..] = left else {
             return Ok(());
         };
-        push_remarks(line, *said, notes)?;
+        push_remarks(place.line, *said, notes)?;
         rest = others;
         left = more;
     }
@@ -374,5 +380,5 @@ pub(crate) fn add_computed_prices<'a>(
         &written.records,
         records,
     )?;
-    push_all_remarks(written.lines.as_slice(), remarks.as_slice(), notes)
+    push_all_remarks(written.places.as_slice(), remarks.as_slice(), notes)
 }

@@ -1,6 +1,7 @@
 //! Which term fits a price.
 
 ghost use Rattle.std.specs.Prelude.{◌≡◌, IfOk};
+ghost use Rattle.std.specs.List.{list_any};
 ghost use Rattle.std.specs.Option.{option_copied};
 ghost use Rattle.feed_terms.specs.Fits.{fits, fits_besides, has_code, has_discount, has_tax, is_among, is_asked, supplier_text, takes_code};
 
@@ -103,17 +104,20 @@ fn takes_code(asked: &[Text], scheme: Option<&Text>, said: &SaidCode) -> bool
     is_among(asked, &said.code) && is_text(scheme, Some(&said.scheme))
 }
 
+// Whether it takes what one of several says.
+fn takes_one(asked: &[Text], scheme: Option<&Text>, said: &[SaidCode]) -> bool
+    ensures { result ≡ list_any (takes_code asked.now (option_copied scheme.entry)) said.now }
+{
+    said.iter().any(|code| takes_code(asked, scheme, code))
+}
+
 // Whether a term takes what one and the same DiscountCoded of a price says, if it asks for codes.
 fn has_code(term: &Term, said: &[SaidCode]) -> bool
     ensures { result ≡ has_code term.now said.now }
 {
     match &term.codes {
         None => true,
-        Some(asked) => {
-            let scheme = term.scheme.as_ref();
-            said.iter()
-                .any(|code| takes_code(asked.as_slice(), scheme, code))
-        }
+        Some(asked) => takes_one(asked.as_slice(), term.scheme.as_ref(), said),
     }
 }
 

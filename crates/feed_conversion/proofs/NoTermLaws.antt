@@ -49,8 +49,8 @@ module _ (says : SaysNothing) (o : Options) where
   conversion-same (node name tag text below rest) =
       λ i.
       if bytes_eq name (codes "Header")
-      then (if has_stranger below then Err (why.OtherNamespace tag.place)
+      then (if has_stranger below then Err (why.OtherNamespace tt)
       else header_same (composite name tag text below) rest (heading_in o.choices below) i)
-      else if bytes_eq name (codes "Product") then Err (why.NoHeader (Some tag.place))
-      else if bytes_eq name stranger then Err (why.OtherNamespace tag.place)
+      else if bytes_eq name (codes "Product") then Err (why.NoHeader (Some tt))
+      else if bytes_eq name stranger then Err (why.OtherNamespace tt)
       else conversion-same rest i

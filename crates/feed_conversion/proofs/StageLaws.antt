@@ -99,15 +99,15 @@ products_are {P} {N} k tell o h header before (node name tag text below rest) w 
         (passed k o h header before rest (after_lines k (state_of o (seen k h header before w)) (part name tag text below)) (state_of o (seen k h header before (defined.after_product (settings o h header) w (composite name tag text below))))
         (first_refusal o true rest) (after_products (settings o h header) (defined.after_product (settings o h header) w (composite name tag text below)) (products_in rest)) step (later (defined.after_product (settings o h header) w (composite name tag text below))))
     go false f true g y i later =
-        let one : (after_element k (state_of o (seen k h header before w)) (composite name tag text below)).stage ≡ refused (why.SecondHeader tag.place) = rw g refl in
-        let step : (after_lines k (state_of o (seen k h header before w)) (part name tag text below)).stage ≡ refused (why.SecondHeader tag.place) =
+        let one : (after_element k (state_of o (seen k h header before w)) (composite name tag text below)).stage ≡ refused (why.SecondHeader tt) = rw g refl in
+        let step : (after_lines k (state_of o (seen k h header before w)) (part name tag text below)).stage ≡ refused (why.SecondHeader tt) =
         ap (λ (s : State P N). s.stage) (lines_tell k tell (state_of o (seen k h header before w)) name tag text below) ∙ one in
-        rw (f, g) (refused_stays k tell (after_lines k (state_of o (seen k h header before w)) (part name tag text below)) (why.SecondHeader tag.place) rest step)
+        rw (f, g) (refused_stays k tell (after_lines k (state_of o (seen k h header before w)) (part name tag text below)) (why.SecondHeader tt) rest step)
     go false f false g true i later =
-        let one : (after_element k (state_of o (seen k h header before w)) (composite name tag text below)).stage ≡ refused (why.OtherNamespace tag.place) = rw (g, f, i) refl in
-        let step : (after_lines k (state_of o (seen k h header before w)) (part name tag text below)).stage ≡ refused (why.OtherNamespace tag.place) =
+        let one : (after_element k (state_of o (seen k h header before w)) (composite name tag text below)).stage ≡ refused (why.OtherNamespace tt) = rw (g, f, i) refl in
+        let step : (after_lines k (state_of o (seen k h header before w)) (part name tag text below)).stage ≡ refused (why.OtherNamespace tt) =
         ap (λ (s : State P N). s.stage) (lines_tell k tell (state_of o (seen k h header before w)) name tag text below) ∙ one in
-        rw (f, g, i) (refused_stays k tell (after_lines k (state_of o (seen k h header before w)) (part name tag text below)) (why.OtherNamespace tag.place) rest step)
+        rw (f, g, i) (refused_stays k tell (after_lines k (state_of o (seen k h header before w)) (part name tag text below)) (why.OtherNamespace tt) rest step)
     go false f false g false i later =
         let one : after_element k (state_of o (seen k h header before w)) (composite name tag text below) ≡ state_of o (seen k h header before w) = rw (g, f, i) refl in
         let step : after_lines k (state_of o (seen k h header before w)) (part name tag text below) ≡ state_of o (seen k h header before w) =
@@ -193,15 +193,15 @@ decided_is {P} {N} k tell o before (node name tag text below rest) =
         → finished k (fold (after_lines k) (start o before) (parts_of (node name tag text below rest))) ≡ result_map (behind k before) (decided o (node name tag text below rest))
     go true f x g y i z j later =
         let other : bytes_eq name (codes "Header") ≡ false = apart name f in
-        let one : (after_element k (start o before) (composite name tag text below)).stage ≡ refused (why.NoHeader (Some tag.place)) = rw (other, f) refl in
-        let step : (after_lines k (start o before) (part name tag text below)).stage ≡ refused (why.NoHeader (Some tag.place)) =
+        let one : (after_element k (start o before) (composite name tag text below)).stage ≡ refused (why.NoHeader (Some tt)) = rw (other, f) refl in
+        let step : (after_lines k (start o before) (part name tag text below)).stage ≡ refused (why.NoHeader (Some tt)) =
         ap (λ (s : State P N). s.stage) (lines_tell k tell (start o before) name tag text below) ∙ one in
-        rw (other, f) (refused_here k tell rest (after_lines k (start o before) (part name tag text below)) (why.NoHeader (Some tag.place)) step)
+        rw (other, f) (refused_here k tell rest (after_lines k (start o before) (part name tag text below)) (why.NoHeader (Some tt)) step)
     go false f true g y i true j later =
-        let one : (after_element k (start o before) (composite name tag text below)).stage ≡ refused (why.OtherNamespace tag.place) = rw (g, j) refl in
-        let step : (after_lines k (start o before) (part name tag text below)).stage ≡ refused (why.OtherNamespace tag.place) =
+        let one : (after_element k (start o before) (composite name tag text below)).stage ≡ refused (why.OtherNamespace tt) = rw (g, j) refl in
+        let step : (after_lines k (start o before) (part name tag text below)).stage ≡ refused (why.OtherNamespace tt) =
         ap (λ (s : State P N). s.stage) (lines_tell k tell (start o before) name tag text below) ∙ one in
-        rw (f, g, j) (refused_here k tell rest (after_lines k (start o before) (part name tag text below)) (why.OtherNamespace tag.place) step)
+        rw (f, g, j) (refused_here k tell rest (after_lines k (start o before) (part name tag text below)) (why.OtherNamespace tt) step)
     go false f true g y i false j later =
         let c = composite name tag text below in
         let one : after_element k (start o before) (composite name tag text below)
@@ -218,10 +218,10 @@ decided_is {P} {N} k tell o before (node name tag text below rest) =
         run_is ∙ after_header k tell o before (composite name tag text below) rest (heading_in o.choices below) (after_lines k (start o before) (part name tag text below)) step
         ∙ ap (result_map (behind k before)) (sym defined_is)
     go false f false g true i z j later =
-        let one : (after_element k (start o before) (composite name tag text below)).stage ≡ refused (why.OtherNamespace tag.place) = rw (g, f, i) refl in
-        let step : (after_lines k (start o before) (part name tag text below)).stage ≡ refused (why.OtherNamespace tag.place) =
+        let one : (after_element k (start o before) (composite name tag text below)).stage ≡ refused (why.OtherNamespace tt) = rw (g, f, i) refl in
+        let step : (after_lines k (start o before) (part name tag text below)).stage ≡ refused (why.OtherNamespace tt) =
         ap (λ (s : State P N). s.stage) (lines_tell k tell (start o before) name tag text below) ∙ one in
-        rw (f, g, i) (refused_here k tell rest (after_lines k (start o before) (part name tag text below)) (why.OtherNamespace tag.place) step)
+        rw (f, g, i) (refused_here k tell rest (after_lines k (start o before) (part name tag text below)) (why.OtherNamespace tt) step)
     go false f false g false i z j later =
         let same : decided o (node name tag text below rest) ≡ decided o rest = passed_over o name tag text below rest f g i in
         let one : after_element k (start o before) (composite name tag text below) ≡ start o before = rw (g, f, i) refl in

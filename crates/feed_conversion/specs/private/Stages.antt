@@ -4,7 +4,7 @@ use Rattle.std.specs.Prelude.{◌++◌, Option, Some, None, Result, Ok, Err, if�
 use Rattle.std.specs.Prelude.{decimal, nat_le, nat_lt, length, take, drop, fold, option_map}
 use Rattle.std.specs.Option.{unwrap_or}
 use Rattle.std.specs.Str.{bytes_eq}
-use Rattle.feed_xml.specs.declared.position.Position.{Position}
+use Rattle.std.specs.Prelude.{⊤}
 use Rattle.csv_records.specs.RecordTexts.{limit, records_text}
 use Rattle.feed_outline.specs.Composites.{has_stranger}
 use Rattle.feed_outline.specs.Names.{stranger}
@@ -41,7 +41,7 @@ pub record OpenParts : Type 0 where
   pub full : ℕ
   pub count : ℕ
   pub text : List ℕ
-  pub beyond : Option Position
+  pub beyond : Option ⊤
   pub tally : Tally
 
 -- what the target has made of the parts and of the notes that it has taken, and what is told of the
@@ -105,7 +105,7 @@ abbrev pub grown : OpenParts → ℕ → List ℕ → OpenParts
 grown b more text = record b { count = b.count + more; text = b.text ++ text }
 
 -- with so many records, of this text, of a product at this place in the next part
-abbrev pub in_next_part : ℕ → OpenParts → Position → ℕ → List ℕ → OpenParts
+abbrev pub in_next_part : ℕ → OpenParts → ⊤ → ℕ → List ℕ → OpenParts
 in_next_part most b place more text = record {
   front = b.front;
   back = b.back;
@@ -128,7 +128,7 @@ with_begun k most h = with_part k most h.begun.full (h.begun.text ++ end_text h.
 
 -- with a product of so many records, of this text, in the part that was begun, in the next one, or
 -- in none
-unfoldable pub kept : {P N : Type 0} → Keeping P N → ℕ → Stored P N → Position → ℕ → List ℕ
+unfoldable pub kept : {P N : Type 0} → Keeping P N → ℕ → Stored P N → ⊤ → ℕ → List ℕ
     → Option (Stored P N)
 kept k most h place more text =
     if has_room h.begun.count (length h.begun.text) more (length text)
@@ -253,7 +253,7 @@ all_parts k most h =
     (empty_parts h.begun (h.begun.full + 1) (most - (h.begun.full + 1)))
 
 -- what the target has made of all at the end
-abbrev pub ended_at : {P N : Type 0} → Keeping P N → ℕ → Stored P N → Option Position
+abbrev pub ended_at : {P N : Type 0} → Keeping P N → ℕ → Stored P N → Option ⊤
     → Result (Taken P N) Refusal
 ended_at k most h (Some place) = Err (why.Parts (h.begun.full + 1) place)
 ended_at k most h None = Ok (taken (all_parts k most h) h.notes (counted h.begun.tally))

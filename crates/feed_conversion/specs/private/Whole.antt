@@ -42,15 +42,15 @@ abbrev pub first_refusal : Options → Bool → Nodes → Option Refusal
 first_refusal o true no_nodes = None
 first_refusal o false no_nodes = Some (why.NoHeader None)
 first_refusal o true (node name tag text below rest) =
-    if bytes_eq name (codes "Header") then Some (why.SecondHeader tag.place)
+    if bytes_eq name (codes "Header") then Some (why.SecondHeader tt)
     else if bytes_eq name (codes "Product") then first_refusal o true rest
-    else if bytes_eq name stranger then Some (why.OtherNamespace tag.place)
+    else if bytes_eq name stranger then Some (why.OtherNamespace tt)
     else first_refusal o true rest
 first_refusal o false (node name tag text below rest) =
     if bytes_eq name (codes "Header")
     then option_or (header_refusal o (composite name tag text below)) (first_refusal o true rest)
-    else if bytes_eq name (codes "Product") then Some (why.NoHeader (Some tag.place))
-    else if bytes_eq name stranger then Some (why.OtherNamespace tag.place)
+    else if bytes_eq name (codes "Product") then Some (why.NoHeader (Some tt))
+    else if bytes_eq name stranger then Some (why.OtherNamespace tt)
     else first_refusal o false rest
 
 abbrev pub by_refusal : Options → Nodes → Option Refusal → Result Converted Refusal

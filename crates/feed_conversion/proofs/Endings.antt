@@ -2,7 +2,7 @@
 use Rattle.std.proofs.Common.{ℕ, ◌+◌, ◌++◌, List, Option}
 use Rattle.std.specs.Option.{option_map_or}
 use Rattle.std.specs.Prelude.{Result, Ok, Err}
-use Rattle.feed_xml.specs.declared.position.Position.{Position}
+use Rattle.std.specs.Prelude.{⊤}
 use Rattle.feed_mapping.specs.Records.{Records}
 use Rattle.feed_conversion.specs.Packing.{Converted, Settings, Packing, all_parts}
 use Rattle.feed_conversion.specs.Tallies.{counted}
@@ -18,7 +18,7 @@ abbrev pub joined : Packing → Records → Packing
 joined w records = record w { begun = w.begun ++ records }
 
 -- a message that needs more parts than there are is refused
-abbrev pub ended_at : Settings → Packing → Option Position → Result Converted Refusal
+abbrev pub ended_at : Settings → Packing → Option ⊤ → Result Converted Refusal
 ended_at t w beyond = option_map_or (λ place. Err (why.Parts (w.full + 1) place)) beyond (Ok (converted (all_parts t w) (counted w.tally)))
 
 -- and before it one of which too many products are wrong

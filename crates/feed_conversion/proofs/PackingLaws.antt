@@ -4,7 +4,7 @@ use Rattle.std.specs.Prelude.{Option, Some, None, Result, Ok, Err, take, drop}
 use Rattle.std.specs.Option.{unwrap_or}
 use Rattle.std.proofs.lemmas.Bool.{lt-ltb}
 use Rattle.std.proofs.lemmas.List.Sums.{fold-append, fold_push}
-use Rattle.feed_xml.specs.declared.position.Position.{Position}
+use Rattle.std.specs.Prelude.{⊤}
 use Rattle.csv_records.specs.RecordTexts.{records_text}
 use Rattle.feed_outline.specs.Nodes.{Nodes}
 use Rattle.feed_mapping.specs.Elements.{Composite}
@@ -68,13 +68,13 @@ joined_is k h header before w records =
     let count : 1 + length (w.begun ++ records) ≡ 1 + length w.begun + length records = omega (arith, length-append w.begun records) in
     rw (count, grown (first_record h header w.full) w.begun records) refl
 
-turned_is : {P : Type 0} (k : P → List ℕ → P) (o : Options) (h : Heading) (header : Nodes) (before : Taken P) (w : Packing) (place : Position) (records : List (List (List ℕ)))
+turned_is : {P : Type 0} (k : P → List ℕ → P) (o : Options) (h : Heading) (header : Nodes) (before : Taken P) (w : Packing) (place : ⊤) (records : List (List (List ℕ)))
     → stored (run.in_next_part o.choices.parts (seen k h header before w).begun place (length records) (records_text records)) (run.with_begun k o.choices.parts (seen k h header before w))
     ≡ seen k h header before (defined.in_next_part (settings o h header) w place records)
 turned_is k o h header before w place records =
     rw (written_is k o h header before w, text_first (first_record h header (w.full + 1)) records) refl
 
-pub kept_is : {P : Type 0} (k : P → List ℕ → P) (o : Options) (h : Heading) (header : Nodes) (before : Taken P) (w : Packing) (place : Position) (records : List (List (List ℕ)))
+pub kept_is : {P : Type 0} (k : P → List ℕ → P) (o : Options) (h : Heading) (header : Nodes) (before : Taken P) (w : Packing) (place : ⊤) (records : List (List (List ℕ)))
     → kept k o.choices.parts (seen k h header before w) place (length records) (records_text records)
     ≡ option_map (seen k h header before) (defined.packed (settings o h header) w place records)
 unfolding kept
@@ -157,7 +157,7 @@ pub ended_is : {P : Type 0} (k : P → List ℕ → P) (o : Options) (h : Headin
     → run.ended k o (seen k h header before w) ≡ result_map (behind k before) (defined.ended (settings o h header) w)
 ended_is {P} k o h header before w = by (refused_for o.wrong w.tally)
   where
-    go : (beyond : Option Position) → w.beyond ≡ beyond
+    go : (beyond : Option ⊤) → w.beyond ≡ beyond
         → run.ended_at k o.choices.parts (seen k h header before w) w.beyond ≡ result_map (behind k before) (ended_at (settings o h header) w w.beyond)
     go (Some place) e = rw e refl
     go None e =

@@ -5,7 +5,7 @@ use Rattle.std.specs.List.{AllByRecursion, flat_map}
 use Rattle.std.proofs.lemmas.Bool.{ltb-false, ltb-true}
 use Rattle.std.proofs.lemmas.Grind.{flat_map-append}
 use Rattle.std.proofs.lemmas.List.Sums.{sum_by_push}
-use Rattle.feed_xml.specs.declared.position.Position.{Position}
+use Rattle.std.specs.Prelude.{⊤}
 use Rattle.feed_outline.specs.Composites.{text_in}
 use Rattle.feed_outline.specs.Nodes.{Nodes}
 use Rattle.feed_mapping.specs.Elements.{Composite}
@@ -210,7 +210,7 @@ abbrev pub value : {A E : Type 0} → A → Result A E → A
 value other (Ok x) = x
 value other (Err e) = other
 
-pub beyond_none : (most full : ℕ) (earlier : Option Position) (place : Position) → beyond_at most full earlier place ≡ None → (earlier ≡ None) × (ltb full most ≡ true)
+pub beyond_none : (most full : ℕ) (earlier : Option ⊤) (place : ⊤) → beyond_at most full earlier place ≡ None → (earlier ≡ None) × (ltb full most ≡ true)
 beyond_none most full (Some p) place e = absurd cc
 beyond_none most full None place e = (refl, go (ltb full most) refl)
   where
@@ -325,7 +325,7 @@ part_there c nodes h e = go (ltb 0 c.parts) refl
 pub ended_ok : (t : Settings) (z : Packing) (made : Converted) → ended t z ≡ Ok made → (z.beyond ≡ None) × (converted (all_parts t z) (counted z.tally) ≡ made)
 ended_ok t z made e = by (refused_for t.allowed z.tally) e
   where
-    last : (beyond : Option Position) → z.beyond ≡ beyond → ended_at t z beyond ≡ Ok made → (z.beyond ≡ None) × (converted (all_parts t z) (counted z.tally) ≡ made)
+    last : (beyond : Option ⊤) → z.beyond ≡ beyond → ended_at t z beyond ≡ Ok made → (z.beyond ≡ None) × (converted (all_parts t z) (counted z.tally) ≡ made)
     last (Some place) b now = absurd cc
     last None b now = (b, ap (value (converted (all_parts t z) (counted z.tally))) now)
 

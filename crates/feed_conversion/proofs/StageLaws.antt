@@ -95,15 +95,15 @@ products_are {P} k tell o h header before (node name tag text below rest) w =
         (passed k o h header before rest (after_lines k (state_of o (seen k h header before w)) (part name tag text below)) (state_of o (seen k h header before (defined.after_product (settings o h header) w (composite name tag text below))))
         (refused_behind rest) (after_products (settings o h header) (defined.after_product (settings o h header) w (composite name tag text below)) (products_in rest)) step (later (defined.after_product (settings o h header) w (composite name tag text below))))
     go false f true g y i later =
-        let one : (after_element k (state_of o (seen k h header before w)) (composite name tag text below)).stage ≡ refused (why.SecondHeader tag.place) = rw g refl in
-        let step : (after_lines k (state_of o (seen k h header before w)) (part name tag text below)).stage ≡ refused (why.SecondHeader tag.place) =
+        let one : (after_element k (state_of o (seen k h header before w)) (composite name tag text below)).stage ≡ refused (why.SecondHeader tt) = rw g refl in
+        let step : (after_lines k (state_of o (seen k h header before w)) (part name tag text below)).stage ≡ refused (why.SecondHeader tt) =
         ap (λ (s : State P). s.stage) (lines_tell k tell (state_of o (seen k h header before w)) name tag text below) ∙ one in
-        rw (f, g) (refused_stays k tell (after_lines k (state_of o (seen k h header before w)) (part name tag text below)) (why.SecondHeader tag.place) rest step)
+        rw (f, g) (refused_stays k tell (after_lines k (state_of o (seen k h header before w)) (part name tag text below)) (why.SecondHeader tt) rest step)
     go false f false g true i later =
-        let one : (after_element k (state_of o (seen k h header before w)) (composite name tag text below)).stage ≡ refused (why.OtherNamespace tag.place) = rw (g, f, i) refl in
-        let step : (after_lines k (state_of o (seen k h header before w)) (part name tag text below)).stage ≡ refused (why.OtherNamespace tag.place) =
+        let one : (after_element k (state_of o (seen k h header before w)) (composite name tag text below)).stage ≡ refused (why.OtherNamespace tt) = rw (g, f, i) refl in
+        let step : (after_lines k (state_of o (seen k h header before w)) (part name tag text below)).stage ≡ refused (why.OtherNamespace tt) =
         ap (λ (s : State P). s.stage) (lines_tell k tell (state_of o (seen k h header before w)) name tag text below) ∙ one in
-        rw (f, g, i) (refused_stays k tell (after_lines k (state_of o (seen k h header before w)) (part name tag text below)) (why.OtherNamespace tag.place) rest step)
+        rw (f, g, i) (refused_stays k tell (after_lines k (state_of o (seen k h header before w)) (part name tag text below)) (why.OtherNamespace tt) rest step)
     go false f false g false i later =
         let one : after_element k (state_of o (seen k h header before w)) (composite name tag text below) ≡ state_of o (seen k h header before w) = rw (g, f, i) refl in
         let step : after_lines k (state_of o (seen k h header before w)) (part name tag text below) ≡ state_of o (seen k h header before w) =
@@ -170,15 +170,15 @@ conversion_is {P} k tell o before (node name tag text below rest) =
     go : (x : Bool) → bytes_eq name (codes "Header") ≡ x → (p : Bool) → bytes_eq name (codes "Product") ≡ p → (y : Bool) → bytes_eq name stranger ≡ y → (z : Bool) → has_stranger below ≡ z
         → finished k (fold (after_lines k) (start o before) (parts_of rest)) ≡ result_map (behind k before) (conversion o rest)
         → finished k (fold (after_lines k) (start o before) (parts_of (node name tag text below rest))) ≡ result_map (behind k before) (conversion o (node name tag text below rest))
-    go true g p f y i true j later = rw (g, j) (at_once (why.OtherNamespace tag.place) (rw (g, j) refl))
+    go true g p f y i true j later = rw (g, j) (at_once (why.OtherNamespace tt) (rw (g, j) refl))
     go true g p f y i false j later =
         let one : after_element k (start o before) (composite name tag text below)
         ≡ at_stage (start o before) (begun_by (composite name tag text below) (heading_in o.choices below)) = rw (g, j) refl in
         let told : conversion o (node name tag text below rest) ≡ after_header o (composite name tag text below) rest (heading_in o.choices below) = rw (g, j) refl in
         headed_is k tell o before (composite name tag text below) rest (heading_in o.choices below) next (lines_tell k tell (start o before) name tag text below ∙ one)
         ∙ ap (result_map (behind k before)) (sym told)
-    go false g true f y i z j later = rw (g, f) (at_once (why.NoHeader (Some tag.place)) (rw (g, f) refl))
-    go false g false f true i z j later = rw (g, f, i) (at_once (why.OtherNamespace tag.place) (rw (g, f, i) refl))
+    go false g true f y i z j later = rw (g, f) (at_once (why.NoHeader (Some tt)) (rw (g, f) refl))
+    go false g false f true i z j later = rw (g, f, i) (at_once (why.OtherNamespace tt) (rw (g, f, i) refl))
     go false g false f false i z j later =
         let one : after_element k (start o before) (composite name tag text below) ≡ start o before = rw (g, f, i) refl in
         let same : conversion o (node name tag text below rest) ≡ conversion o rest = rw (g, f, i) refl in

@@ -2,7 +2,7 @@
 use Rattle.std.specs.Prelude.{ℕ, ◌+◌, ◌-◌, List, [], ◌∷◌, ◌++◌, Option, Some, None, Result, Ok, Err}
 use Rattle.std.specs.Prelude.{if◌then◌else◌, nat_lt, fold, option_map}
 use Rattle.std.specs.Option.{option_map_or, option_or, unwrap_or}
-use Rattle.feed_xml.specs.declared.position.Position.{Position}
+use Rattle.std.specs.Prelude.{⊤}
 use Rattle.onix_records.specs.declared.row.Opening.{Opening}
 use Rattle.feed_mapping.specs.Elements.{Composite}
 use Rattle.feed_mapping.specs.Notes.{Reason, wrong}
@@ -40,7 +40,7 @@ pub record Settings : Type 0 where
 pub record Packing : Type 0 where
   pub full : ℕ
   pub begun : Records
-  pub beyond : Option Position
+  pub beyond : Option ⊤
   pub parts : List (List ℕ)
   pub tally : Tally
 
@@ -57,7 +57,7 @@ with_part most full text parts = if nat_lt full most then parts ++ text ∷ [] e
 
 -- the place of the first product for which there is no part, where a product at this place begins
 -- the part behind so many
-abbrev pub beyond_at : ℕ → ℕ → Option Position → Position → Option Position
+abbrev pub beyond_at : ℕ → ℕ → Option ⊤ → ⊤ → Option ⊤
 beyond_at most full earlier place =
     option_or earlier (if nat_lt full most then None else Some place)
 
@@ -71,7 +71,7 @@ module _ (t : Settings) (w : Packing) where
   with_begun = with_part t.most w.full (message_text (t.first w.full) w.begun) w.parts
 
   -- a product in the next part
-  abbrev pub in_next_part : Position → Records → Packing
+  abbrev pub in_next_part : ⊤ → Records → Packing
   in_next_part place records = record w {
     full = w.full + 1;
     begun = records;
@@ -81,7 +81,7 @@ module _ (t : Settings) (w : Packing) where
 
   -- records of a product at this place go into the part that was begun where that has room, else
   -- into the next; nothing, where that has no room for them either
-  abbrev pub packed : Position → Records → Option Packing
+  abbrev pub packed : ⊤ → Records → Option Packing
   packed place records =
       if fits (t.first w.full) (w.begun ++ records)
       then Some (record w { begun = w.begun ++ records })

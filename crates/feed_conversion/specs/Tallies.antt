@@ -3,7 +3,7 @@ use Rattle.std.specs.Prelude.{ℕ, ◌+◌, ◌*◌, Bool, true, false, not, ◌
 use Rattle.std.specs.Prelude.{Option, Some, None, if◌then◌else◌, option_map}
 use Rattle.std.specs.List.{list_any}
 use Rattle.std.specs.Option.{option_or}
-use Rattle.feed_xml.specs.declared.position.Position.{Position}
+use Rattle.std.specs.Prelude.{⊤}
 use Rattle.feed_outline.specs.Nodes.{Nodes}
 use Rattle.feed_mapping.specs.Elements.{Composite}
 use Rattle.feed_mapping.specs.Notes.{Reason, is_of_others as says_others}
@@ -18,8 +18,8 @@ use Rattle.feed_conversion.specs.declared.refusal.Refusal.TheVariants as why
 use Rattle.feed_conversion.specs.declared.tally.Counted.{Counted}
 use Rattle.feed_conversion.specs.declared.tally.Tally.{Tally}
 
-abbrev pub place_of : Composite → Position
-place_of c = c.element.tag.place
+abbrev pub place_of : Composite → ⊤
+place_of c = c.element.tt
 
 -- before the first product
 abbrev pub no_tally : Tally

@@ -18,7 +18,6 @@ use crate::tally::{Counted, refused_for};
 use crate::target::Target;
 use crate::words::{DeskWords, TermsWords, Words};
 use feed_outline::{RefusalHints, Stopped, outlines_tell, read_message};
-use feed_xml::Position;
 use std::alloc::{AllocError, Global};
 use std::io::Read;
 use std::marker::PhantomData;
@@ -87,9 +86,9 @@ fn end_parts<T: Target>(
         begun.old.beyond) }
 {
     let counted = begun.tally.counted();
-    if let Some(place) = begun.beyond {
+    if let Some(place) = &begun.beyond {
         return match begun.full.checked_add(1) {
-            Some(needed) => Err(Fault::Refused(Refusal::Parts(needed, place))),
+            Some(needed) => Err(Fault::Refused(Refusal::Parts(needed, place.copied()))),
             None => Err(Fault::Memory),
         };
     }
@@ -137,17 +136,12 @@ fn finish<T: Target + Drop>(converter: Converter<'_, T>) -> Outcome<T>
 }
 
 // What has come of a feed that was not read.
-fn unread<T: Target + Drop>(
-    target: T,
-    fault: feed_outline::Fault,
-    place: Position,
-    told: RefusalHints,
-) -> Outcome<T>
-    ensures { IsUnread result.ended fault place }
+fn unread<T: Target + Drop>(target: T, fault: feed_outline::Fault, told: RefusalHints) -> Outcome<T>
+    ensures { IsUnread result.ended fault }
 {
     let ended = match fault {
         feed_outline::Fault::Document(feed_xml::Fault::Memory) => Err(Fault::Memory),
-        fault => Err(Fault::Unread(fault, place, told)),
+        fault => Err(Fault::Unread(fault, told)),
     };
     Outcome { target, ended }
 }
@@ -168,13 +162,8 @@ fn convert_by<R: Read, T: Target + Drop, W: Words + Drop>(
     match read_message(alloc, reader, WordConverter { converter, words }) {
         Ok(taker) => finish(taker.converter),
         Err(stopped) => {
-            let Stopped {
-                fault,
-                place,
-                taker,
-                told,
-            } = stopped;
-            unread(taker.converter.into_target(), fault, place, told)
+            let Stopped { fault, taker, told } = stopped;
+            unread(taker.converter.into_target(), fault, told)
         }
     }
 }

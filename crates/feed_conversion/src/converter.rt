@@ -85,7 +85,7 @@ fn keep_variant<T: Target>(
         (stored (begun_view begun.old) (T.parts target.old))
         product.now records.now (note_views notes.now))) }
 {
-    let is_kept = keep(alloc, most, begun, target, product.line.place, records)?;
+    let is_kept = keep(alloc, most, begun, target, &product.line.place, records)?;
     if is_kept {
         note_product(alloc, begun, target, product, records, notes)?;
     }
@@ -278,7 +278,7 @@ fn begin<'a>(
         → IfOk result (λ s. stage_view s ≡ stage_after_header unbegun o header.now) }
 {
     if has_stranger(&header.below) {
-        let place = header.line.place;
+        let place = header.line.place.copied();
         return Ok(Stage::Refused(Refusal::OtherNamespace(place)));
     }
     begin_own(alloc, choices, header)
@@ -303,7 +303,7 @@ fn begin_own<'a>(
         Err(HeaderFault::Refused(refusal)) => {
             let number = text_or_empty(b"MessageNumber", &header.below);
             let number = Items::from_vec(Vec::from_slice(alloc, number)?);
-            Ok(Stage::Refused(Refusal::Header(refusal, number, header.line.place)))
+            Ok(Stage::Refused(Refusal::Header(refusal, number, header.line.place.copied())))
         }
         Err(HeaderFault::Memory) => Err(AllocError),
     }
@@ -348,7 +348,7 @@ impl<'a, T: Target + Drop> Converter<'a, T> {
             }
             Stage::Refused(_) => Ok(()),
             Stage::Within(_) => {
-                let place = header.line.place;
+                let place = header.line.place.copied();
                 self.set_stage(Stage::Refused(Refusal::SecondHeader(place)));
                 Ok(())
             }
@@ -359,7 +359,7 @@ impl<'a, T: Target + Drop> Converter<'a, T> {
     fn take_stranger(&mut self, element: &Composite<'_>)
         ensures { self.new ≡ at_stage self.old (stage_after_stranger self.old.stage element.now) }
     {
-        let place = element.line.place;
+        let place = element.line.place.copied();
         match &self.stage {
             Stage::Refused(_) => {}
             Stage::Unbegun => self.set_stage(Stage::Refused(Refusal::OtherNamespace(place))),
@@ -374,7 +374,7 @@ impl<'a, T: Target + Drop> Converter<'a, T> {
     {
         match &mut self.stage {
             Stage::Unbegun => {
-                let place = Some(product.line.place);
+                let place = Some(product.line.place.copied());
                 self.set_stage(Stage::Refused(Refusal::NoHeader(place)));
                 Ok(())
             }

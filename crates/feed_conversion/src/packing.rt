@@ -117,12 +117,17 @@ fn grow(begun: &mut OpenParts, more: usize, text: &str) -> Result<(), AllocError
 }
 
 // The place of the first product for which there is no part.
-fn beyond_at(most: u32, full: u32, earlier: Option<Position>, place: Position) -> Option<Position>
-    ensures { result ≡ beyond_at most full earlier place }
+fn beyond_at(
+    most: u32,
+    full: u32,
+    earlier: &Option<Position>,
+    place: &Position,
+) -> Option<Position>
+    ensures { result ≡ beyond_at most full earlier.now place.now }
 {
     match earlier {
-        Some(earlier) => Some(earlier),
-        None => { if full < most { None } else { Some(place) } }
+        Some(earlier) => Some(earlier.copied()),
+        None => { if full < most { None } else { Some(place.copied()) } }
     }
 }
 
@@ -152,13 +157,13 @@ fn turn(
     begun: &mut OpenParts,
     most: u32,
     first: &str,
-    place: Position,
+    place: &Position,
     more: usize,
     text: &str,
 ) -> Result<(), AllocError>
     ensures { first.now ≡ first_text (begun_view begun.old) (begun.old.full + 1)
         → OnOk result (begun_view begun.new
-        ≡ in_next_part most (begun_view begun.old) place more text.now) }
+        ≡ in_next_part most (begun_view begun.old) place.now more text.now) }
 {
     let Some(full) = begun.full.checked_add(1) else {
         return Err(AllocError);
@@ -166,7 +171,7 @@ fn turn(
     let Some(count) = 1_usize.checked_add(more) else {
         return Err(AllocError);
     };
-    begun.beyond = beyond_at(most, full, begun.beyond, place);
+    begun.beyond = beyond_at(most, full, &begun.beyond, place);
     begun.full = full;
     begun.count = count;
     begun.text.clear();
@@ -183,7 +188,7 @@ fn keep_text<T: Target>(
     most: u32,
     begun: &mut OpenParts,
     target: &mut T,
-    place: Position,
+    place: &Position,
     more: usize,
     text: &str,
 ) -> Result<bool, AllocError>
@@ -192,7 +197,7 @@ fn keep_text<T: Target>(
         (stored (begun_view begun.new) (T.parts target.new))
         (kept T.with_part most
         (stored (begun_view begun.old) (T.parts target.old))
-        place more text.now)) }
+        place.now more text.now)) }
 {
     if has_room(alloc, begun.count, begun.text.len(), more, text.len())? {
         grow(begun, more, text)?;
@@ -224,7 +229,7 @@ pub(crate) fn keep<T: Target>(
     most: u32,
     begun: &mut OpenParts,
     target: &mut T,
-    place: Position,
+    place: &Position,
     records: &RecordBuffer,
 ) -> Result<bool, AllocError>
     ensures { IfOk result (λ is. IsKept is
@@ -232,7 +237,7 @@ pub(crate) fn keep<T: Target>(
         (stored (begun_view begun.new) (T.parts target.new))
         (kept T.with_part most
         (stored (begun_view begun.old) (T.parts target.old))
-        place (length records.now) (records_text records.now))) }
+        place.now (length records.now) (records_text records.now))) }
 {
     let text = write_records(alloc, &records.as_records())?;
     keep_text(alloc, most, begun, target, place, records.len(), &text)

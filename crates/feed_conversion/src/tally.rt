@@ -136,7 +136,7 @@ fn count_wrong(alloc: Global, tally: &mut Tally, product: &Composite<'_>) -> Res
         let reference = text_or_empty(b"RecordReference", &product.below);
         tally.first = Some(WrongProduct {
             reference: Items::from_vec(Vec::from_slice(alloc, reference)?),
-            place: product.line.place,
+            place: product.line.place.copied(),
         });
     }
     Ok(())
@@ -195,5 +195,5 @@ pub(crate) fn refused_for(
         return Ok(None);
     };
     let reference = Items::from_vec(Vec::from_slice(alloc, first.reference.as_slice())?);
-    Ok(Some(Refusal::Wrong(tally.wrong, tally.products, reference, first.place)))
+    Ok(Some(Refusal::Wrong(tally.wrong, tally.products, reference, first.place.copied())))
 }

@@ -1,6 +1,5 @@
 -- How a conversion ends, by the state that it comes to.
 use Rattle.std.specs.Prelude.{◌≡◌, ℕ, List, Option, Result, Ok, Err, IfErr, IfOk, fold}
-use Rattle.feed_xml.specs.declared.position.Position.{Position}
 use Rattle.feed_outline.specs.declared.message_reading.Fault.{Fault as Unread}
 use Rattle.feed_conversion.specs.declared.refusal.Fault.{Fault}
 use Rattle.feed_conversion.specs.declared.refusal.Fault.TheVariants as fault
@@ -17,13 +16,13 @@ abbrev pub Ends : {P : Type 0} → Result Counted Fault → P
 Ends (Ok told) parts comes = comes ≡ Ok (taken parts told)
 Ends (Err (fault.Refused refusal)) parts comes = comes ≡ Err refusal
 Ends (Err fault.Memory) parts comes = Unit {0}
-Ends (Err (fault.Unread unread place told)) parts comes = ⊥
+Ends (Err (fault.Unread unread told)) parts comes = ⊥
 
 -- a fault of what was not read, unless memory ran out
-abbrev pub IsUnread : Result Counted Fault → Unread → Position → Type 0
-IsUnread (Err (fault.Unread unread place told)) was at = (unread ≡ was) × (place ≡ at)
-IsUnread (Err fault.Memory) was at = Unit {0}
-IsUnread other was at = ⊥
+abbrev pub IsUnread : Result Counted Fault → Unread → Type 0
+IsUnread (Err (fault.Unread unread told)) was = unread ≡ was
+IsUnread (Err fault.Memory) was = Unit {0}
+IsUnread other was = ⊥
 
 -- what the contract of a conversion says
 abbrev pub Comes : {P : Type 0} → (P → List ℕ → P) → Option (List ℕ) → Options → Taken P

@@ -4,7 +4,7 @@ use Rattle.std.specs.Prelude.{◌++◌, Option, Some, None, Result, Ok, Err, if�
 use Rattle.std.specs.Prelude.{decimal, nat_le, nat_lt, length, take, drop, fold, option_map}
 use Rattle.std.specs.Option.{unwrap_or}
 use Rattle.std.specs.Str.{bytes_eq}
-use Rattle.feed_xml.specs.declared.position.Position.{Position}
+use Rattle.std.specs.Prelude.{⊤}
 use Rattle.csv_records.specs.RecordTexts.{limit, records_text}
 use Rattle.feed_outline.specs.Composites.{has_stranger}
 use Rattle.feed_outline.specs.Names.{stranger}
@@ -39,7 +39,7 @@ pub record OpenParts : Type 0 where
   pub full : ℕ
   pub count : ℕ
   pub text : List ℕ
-  pub beyond : Option Position
+  pub beyond : Option ⊤
   pub tally : Tally
 
 -- what the target has made of the parts that it has taken, and what is told of the products
@@ -99,7 +99,7 @@ abbrev pub grown : OpenParts → ℕ → List ℕ → OpenParts
 grown b more text = record b { count = b.count + more; text = b.text ++ text }
 
 -- with so many records, of this text, of a product at this place in the next part
-abbrev pub in_next_part : ℕ → OpenParts → Position → ℕ → List ℕ → OpenParts
+abbrev pub in_next_part : ℕ → OpenParts → ⊤ → ℕ → List ℕ → OpenParts
 in_next_part most b place more text = record {
   front = b.front;
   back = b.back;
@@ -122,7 +122,7 @@ with_begun k most h = with_part k most h.begun.full (h.begun.text ++ end_text h.
 
 -- with a product of so many records, of this text, in the part that was begun, in the next one, or
 -- in none
-unfoldable pub kept : {P : Type 0} → (P → List ℕ → P) → ℕ → Stored P → Position → ℕ → List ℕ
+unfoldable pub kept : {P : Type 0} → (P → List ℕ → P) → ℕ → Stored P → ⊤ → ℕ → List ℕ
     → Option (Stored P)
 kept k most h place more text =
     if has_room h.begun.count (length h.begun.text) more (length text)
@@ -246,7 +246,7 @@ all_parts k most h =
     (empty_parts h.begun (h.begun.full + 1) (most - (h.begun.full + 1)))
 
 -- what the target has made of all at the end
-abbrev pub ended_at : {P : Type 0} → (P → List ℕ → P) → ℕ → Stored P → Option Position
+abbrev pub ended_at : {P : Type 0} → (P → List ℕ → P) → ℕ → Stored P → Option ⊤
     → Result (Taken P) Refusal
 ended_at k most h (Some place) = Err (why.Parts (h.begun.full + 1) place)
 ended_at k most h None = Ok (taken (all_parts k most h) (counted h.begun.tally))

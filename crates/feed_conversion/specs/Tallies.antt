@@ -19,7 +19,7 @@ use Rattle.feed_conversion.specs.declared.tally.Counted.{Counted}
 use Rattle.feed_conversion.specs.declared.tally.Tally.{Tally}
 
 abbrev pub place_of : Composite → ⊤
-place_of c = c.element.tt
+place_of c = tt
 
 -- before the first product
 abbrev pub no_tally : Tally

@@ -40,7 +40,7 @@ pub record Laws : Type 0 where
   pub opening : (c : Choices) (header : Nodes) (h : Heading) → heading_in c header ≡ Ok h → (before : ℕ) → before < c.parts
       → opening_of (part_record h header before) ≡ Some (numbered (h.number + before) h.opening)
   pub rows : (n : ℕ) (o : Opening) (fields : List (List ℕ)) → row_of (numbered n o) fields ≡ row_of o fields
-  pub one : (o : Opening) (choices : SupplyChoices) (c : Composite) → MayCompute o choices.terms → AllByRecursion (λ f. AreOf o f.records (references_of c.below)) (variants o choices c)
+  pub one : (o : Opening) (choices : SupplyChoices) (nodes : Nodes) → MayCompute o choices.terms → AllByRecursion (λ f. AreOf o f.records (references_of nodes)) (variants o choices nodes)
   pub form : (c : Choices) (header : Nodes) (h : Heading) → heading_in c header ≡ Ok h → h.opening.form ≡ Two
   pub none : (o : Opening) → AreProducts o [] []
   pub joined : (o : Opening) (a b : List (List (List ℕ))) (c d : List Product) → AreProducts o a c → AreProducts o b d → AreProducts o (a ++ b) (c ++ d)
@@ -121,9 +121,9 @@ first_own t before f (g ∷ fs) P (inl same) all = subst P (sym (ap (found f) sa
     found other (Some x) = x
 first_own t before f (g ∷ fs) P (inr rest) all = first_own t before f fs P rest.1 all.1
 
-fate_own : (l : Laws) (t : Settings) → MayCompute t.opening t.supplies.terms → (c : Composite) (variant : Option Variant) (before : ℕ) → IsFirst t before variant (variants t.opening t.supplies c) → AllByRecursion (IsOwn t) (placed_by variant c)
+fate_own : (l : Laws) (t : Settings) → MayCompute t.opening t.supplies.terms → (c : Composite) (variant : Option Variant) (before : ℕ) → IsFirst t before variant (variants t.opening t.supplies c.below) → AllByRecursion (IsOwn t) (placed_by variant c)
 fate_own l t may c None before is = tt
-fate_own l t may c (Some f) before is = (first_own t before f (variants t.opening t.supplies c) (λ g. AreOf t.opening g.records (references_of c.below)) is (l.one t.opening t.supplies c may), tt)
+fate_own l t may c (Some f) before is = (first_own t before f (variants t.opening t.supplies c.below) (λ g. AreOf t.opening g.records (references_of c.below)) is (l.one t.opening t.supplies c.below may), tt)
 
 fates_own : (l : Laws) (t : Settings) → MayCompute t.opening t.supplies.terms → (placings : List Placing) → AllByRecursion (IsRight t) placings → AllByRecursion (IsOwn t) (flat_map placed_of placings)
 fates_own l t may [] right = tt

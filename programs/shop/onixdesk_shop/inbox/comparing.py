@@ -216,9 +216,6 @@ def offers_in(answer: Records) -> dict[tuple[str, str], Spans]:
     return dict(found)
 
 
-# The differences
-
-
 def compare(
     findings: Findings, isbn: str, spans: list[tuple[Spans, Spans]], makes_record: bool, is_unchosen: bool
 ) -> None:

@@ -1,7 +1,5 @@
 //! Notes on what is left out of the message of a FILE.
 
-ghost use Rattle.std.specs.Prelude.{◌≡◌, ◌++◌, OnOk, string_bytes};
-
 use crate::counts::{count_again, count_product, is_of_others};
 use crate::doublets::count_doublets;
 use crate::reasons::{Fate, Told, push_fate, told_of};

@@ -117,17 +117,18 @@ fn grow(begun: &mut OpenParts, more: usize, text: &str) -> Result<(), AllocError
 }
 
 // The place of the first product for which there is no part.
-fn beyond_at(
-    most: u32,
-    full: u32,
-    earlier: &Option<Position>,
-    place: &Position,
-) -> Option<Position>
+fn beyond_at(most: u32, full: u32, earlier: &Option<Position>, place: &Position) -> Option<Position>
     ensures { result ≡ beyond_at most full earlier.now place.now }
 {
     match earlier {
         Some(earlier) => Some(earlier.copied()),
-        None => { if full < most { None } else { Some(place.copied()) } }
+        None => {
+            if full < most {
+                None
+            } else {
+                Some(place.copied())
+            }
+        }
     }
 }
 

@@ -10,3 +10,4 @@ pub mod FirstRecords
 pub mod Utf8Texts
 pub mod Utf8Records
 pub mod TakenLaws
+pub mod NoTermLaws

@@ -26,6 +26,10 @@ pub record Options : Type 0 where
   pub wrong : Allowed
   pub terms : Option (List Term)
 
+-- what the caller chooses, with these terms
+abbrev pub by_terms : Option (List Term) → Options → Options
+by_terms terms o = record o { terms = terms }
+
 -- which elements count
 abbrev pub vocabulary_by : Option (List Term) → List Word
 vocabulary_by None = desk_vocabulary

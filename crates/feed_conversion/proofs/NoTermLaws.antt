@@ -1,5 +1,5 @@
 -- What comes of a message with a table of no term.
-use Rattle.std.proofs.Common.{◌≡◌, ℕ, List, [], ◌∷◌, ◌++◌, Option, Some, None, fold, map, refl}
+use Rattle.std.proofs.Common.{◌≡◌, List, [], ◌∷◌, ◌++◌, Option, Some, None, fold, map, refl}
 use Rattle.std.specs.Prelude.{Result, Ok, Err, codes, if◌then◌else◌, is_some, option_map}
 use Rattle.std.specs.Option.{option_map_or, option_or}
 use Rattle.std.specs.Str.{bytes_eq}
@@ -9,7 +9,7 @@ use Rattle.feed_outline.specs.Nodes.{Nodes, no_nodes, node}
 use Rattle.onix_records.specs.declared.row.Opening.{Opening}
 use Rattle.feed_terms.specs.Laws.{NothingByNoTerms}
 use Rattle.feed_terms.specs.declared.term.Term.{Term}
-use Rattle.feed_mapping.specs.Details.{context_in, detail_fields, detail_outcome, detail_reason, price_in, priced_records, prices_in, supplier_id}
+use Rattle.feed_mapping.specs.Details.{context_in, detail_fields, detail_outcome, detail_reason, price_in, prices_in, supplier_id}
 use Rattle.feed_mapping.specs.Elements.{Composite, composite, each_at, first}
 use Rattle.feed_mapping.specs.Header.{Heading, heading_in}
 use Rattle.feed_mapping.specs.Notes.{Reason, foreign, wrong}

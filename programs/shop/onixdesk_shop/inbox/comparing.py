@@ -122,26 +122,21 @@ def fitting(products: dict[str, list[Product]]) -> dict[str, Records]:
 
 def kinds_of(inbox: Inbox, products: dict[str, list[Product]]) -> list[Kind]:
     """The kinds of prices to compare: the shop's, then those of the file, the most frequent first."""
-    prices: Counter[tuple[str, str]] = Counter()
-    countries: Counter[str] = Counter()
-    quantities: Counter[int] = Counter()
-    # And the one of the last message with prices: a file that deletes, or is for others now, does not show it.
+    shop, found = inbox.shop, Counter[Kind]()
+    # And those of the last message with prices: a file that deletes, or is for others now, does not show them.
     query = "SELECT max(number) FROM message WHERE state = 'applied' AND kinds <> '[]' AND text IS NOT NULL"
     number = inbox.ledger.value(query)
     last = products_of(inbox.ledger.text(number)) if number else ()
     for product in itertools.chain(last, *products.values()):
-        prices.update(product.kinds)
+        country = usual = shop.country if shop else "GB"
         for record in product.records:
-            if record[0] == "ProductSupply" and record[1].strip():
-                countries[record[1].split()[0]] += 1
-            if record[0] == "Price" and len(record) > 9 and record[9]:
-                quantities[int(record[9])] += 1
-    shop = inbox.shop
-    of_file = [(currency, price_type) for (price_type, currency), _ in prices.most_common()]
-    pairs = [*([(shop.currency, shop.price_type)] if shop else []), *of_file]
-    places = [*([shop.country] if shop else []), *(name for name, _ in countries.most_common())] or ["GB"]
-    copies = [*(shop.quantities if shop else [1]), *(number for number, _ in quantities.most_common(3))]
-    kinds = [Kind(place, *pair, number) for pair in pairs for place in places for number in copies]
+            if record[0] == "ProductSupply":
+                country = (record[1].split() or [usual])[0]
+            if record[0] == "Price":
+                place = [*record[4].split(), country][0]
+                found[Kind(place, record[3], record[1], int("".join(record[9:10]) or 1))] += 1
+    of_shop = [Kind(shop.country, shop.currency, shop.price_type, copies) for copies in shop.quantities] if shop else []
+    kinds = [*of_shop, *(kind for kind, _ in found.most_common())]
     return list(dict.fromkeys(kinds))[:MOST_KINDS] or [Kind("GB", "GBP", "02", 1)]
 
 

@@ -89,5 +89,5 @@ def not_named(inbox: Inbox) -> Iterator[str]:
 def not_verified(inbox: Inbox) -> Iterator[str]:
     """Whether its files are fetched from an unverified server."""
     path = FETCH_SETTINGS / f"{inbox.series}.env"
-    if inbox.machine.exists(path) and read_lines(inbox.machine, path).get("UNVERIFIED", (0, ""))[1] == "yes":
+    if inbox.machine.exists(path) and read_lines(inbox.machine, path).get("UNVERIFIED", (0, "no"))[1] != "no":
         yield f"UNVERIFIED=yes in {path}: anybody on the way to that server can change a feed"

@@ -1,99 +1,56 @@
 //! The lines of a text on which its records begin.
 
-use memchr::{memchr, memchr2};
+ghost use Rattle.std.specs.Prelude.{◌≡◌};
+ghost use Rattle.csv_records.specs.RecordTexts.{records_of};
 
-// Whether a byte stands between quotation marks, and whether a mark in its place would open them:
-// at the beginning of a field, and behind the mark that closes them, where it is doubled. The same
-// behind a byte that ends no record.
-fn next_place(place: (bool, bool), byte: u8) -> (bool, bool) {
-    let (is_quoted, may_open) = place;
-    match byte {
-        b'"' if is_quoted => (false, true),
-        b'"' => (may_open, false),
-        _ => (is_quoted, byte == b','),
-    }
-}
+use csv::StringRecord;
+use csv_records::reading::RecordReader;
+use std::alloc::Global;
 
-/// The line on which each record of a text begins, counted from 1, one after the other.
+/// The records of a text, one after the other, each with the line on which it begins.
 #[derive(Drop)]
 pub(crate) struct RecordLines<'a> {
-    text: &'a [u8],
-    line: u64,
-    at: usize,
-    // How many records are passed over before the next.
-    passed: usize,
+    text: &'a str,
+    reader: RecordReader<'a>,
+    record: StringRecord,
+    /// How many records are passed over before the next.
+    pub(crate) passed: usize,
 }
 
 impl<'a> RecordLines<'a> {
     /// Those of this text. A byte order mark at its front is on the first line.
-    pub(crate) fn new(text: &'a [u8]) -> RecordLines<'a> {
+    pub(crate) fn new(alloc: Global, text: &'a str) -> RecordLines<'a>
+        ensures { result.reader ≡ records_of text.now }
+    {
         RecordLines {
             text,
-            line: 1,
-            at: 0,
+            reader: RecordReader::of_text(alloc, text),
+            record: StringRecord::new(alloc),
             passed: 0,
         }
     }
 
-    /// Passes over so many records.
-    pub(crate) fn pass(&mut self, count: usize) {
-        self.passed = self.passed.saturating_add(count);
-    }
-
-    /// The line of the record at this row of the next records, counted from 1, of which there are so
+    /// The line, counted from 1, of the record at this row of the next records, of which there are so
     /// many, or that of the last of them. They are passed over then.
     pub(crate) fn line_at(&mut self, row: u32, count: usize) -> u64 {
         let row = (row as usize).clamp(1, count.max(1));
-        let before = self.passed.saturating_add(row);
-        let mut line = 1u64;
-        for _ in 0..before {
-            line = self.next_line();
+        for _ in 0..self.passed.saturating_add(row) {
+            let _ = self.reader.read(&mut self.record);
         }
         self.passed = count.saturating_sub(row);
-        line
-    }
-
-    // The line of the next record where it is one line without quotation marks, as most are: such
-    // lines are passed over by many bytes at once.
-    fn plain_line(&mut self) -> Option<u64> {
-        let rest = self.text.get(self.at..)?;
-        let end = memchr(b'\n', rest)?;
-        let record = rest.get(..end)?;
-        if record.is_empty() || memchr2(b'"', b'\r', record).is_some() {
-            return None;
-        }
-        let begun = self.line;
-        self.line = begun.saturating_add(1);
-        self.at = self.at.saturating_add(end).saturating_add(1);
-        Some(begun)
-    }
-
-    // The line of the next record, or the last line where there is none.
-    fn next_line(&mut self) -> u64 {
-        if let Some(line) = self.plain_line() {
-            return line;
-        }
-        let rest = self.text.get(self.at..).unwrap_or(&[]);
-        let mut place = (false, true);
-        let mut has_begun = false;
-        let mut begun = self.line;
-        for byte in rest {
-            self.at = self.at.saturating_add(1);
-            let ends_line = *byte == b'\n';
-            let ends_record = ends_line || *byte == b'\r';
-            if ends_line {
-                self.line = self.line.saturating_add(1);
-            }
-            if ends_record && !place.0 {
-                if has_begun {
-                    return begun;
-                }
-                begun = self.line;
-            } else {
-                has_begun = true;
-                place = next_place(place, *byte);
-            }
-        }
-        begun
+        let Some(place) = self.record.position() else {
+            return 1;
+        };
+        // Its place is that of the empty lines before it, where there are some.
+        let rest = self
+            .text
+            .as_bytes()
+            .get(place.byte() as usize..)
+            .unwrap_or(&[]);
+        let ends = rest
+            .iter()
+            .take_while(|byte| matches!(**byte, b'\n' | b'\r'));
+        let empty = ends.filter(|byte| **byte == b'\n').count();
+        place.line().saturating_add(empty as u64)
     }
 }

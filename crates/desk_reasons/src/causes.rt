@@ -8,7 +8,7 @@ ghost use Rattle.watched_output.specs.Shown.{shown};
 
 use crate::fields::{Field, Kind, hint, rule};
 use crate::refused::first_refused;
-use crate::rows::{Form, PARTS, REQUESTS, alike};
+use crate::rows::{Form, PARTS, REQUESTS};
 use csv_records::fields::FieldBuffer;
 use csv_records::record::Record;
 use csv_records::records::Records;
@@ -168,7 +168,9 @@ fn push_wrong(
 // Adds why a name is none that may stand here, where it shows that; else these words.
 fn push_misnamed(text: &mut String, name: &str, words: &str) -> Result<(), AllocError> {
     let (front, _) = name.split_once(';').unwrap_or((name, ""));
-    match alike(front) {
+    let parts = PARTS.iter().map(|part| part.form.name);
+    let mut names = REQUESTS.iter().map(|form| form.name).chain(parts);
+    match names.find(|known| known.eq_ignore_ascii_case(front.trim())) {
         Some(_) if front.len() < name.len() => {
             text.push_str("separate fields by commas, not by semicolons")
         }

@@ -1,5 +1,7 @@
 //! The records of requests and of messages: the names of their fields, and what each has to be.
 
+ghost use Rattle.std.specs.Prelude.{◌≡◌, ◌+◌, ◌-◌, ◌%◌, ◌<◌, ◌≤◌, None, length, slice_get};
+
 use crate::fields::{Field, Kind};
 
 /// What records of a name have behind it.
@@ -117,16 +119,15 @@ pub(crate) static QUESTIONS: [Form; 2] = [
     },
 ];
 
-/// The name of the records that is written so but for the case of letters and spaces.
-pub(crate) fn alike(name: &str) -> Option<&'static str> {
-    let parts = PARTS.iter().map(|part| part.form.name);
-    let mut names = REQUESTS.iter().map(|form| form.name).chain(parts);
-    names.find(|known| known.eq_ignore_ascii_case(name.trim()))
-}
-
 impl Form {
     /// The field at a place, which is 0 for the name. The last two of a Product come again and again.
-    pub(crate) fn field(&self, place: usize) -> Option<Field> {
+    pub(crate) fn field(&self, place: usize) -> Option<Field>
+        ensures none { place ≡ 0 → result ≡ None }
+        ensures own { 0 < place → place ≤ length self.now.fields.now
+            → result ≡ slice_get self.now.fields.now (place - 1) }
+        ensures again { length self.now.fields.now < place
+            → result ≡ slice_get self.now.fields.now (2 + (place - 1) % 2) }
+    {
         let place = place.checked_sub(1)?;
         let at = if place < self.fields.len() {
             place

@@ -17,7 +17,9 @@ pub(crate) const MOST_LINES: u32 = 100;
 const HOUR_SECONDS: u64 = 3600;
 
 // Writes the hint as a line, where there is one.
-fn tell_hint<E: Write>(errors: &mut Errors<E>) {
+fn tell_hint<E: Write>(errors: &mut Errors<E>)
+    ensures { errors.new ≡ record errors.old { writer = errors.new.writer } }
+{
     if !errors.hint.is_empty() {
         let _ = write!(errors.writer, "onixdesk: {}\n", errors.hint);
     }
@@ -25,7 +27,9 @@ fn tell_hint<E: Write>(errors: &mut Errors<E>) {
 
 /// Writes the lines on requests that are malformed, and gives how many are.
 pub(crate) fn tell<E: Write>(reasons: Reasons<'_>, errors: &mut Errors<E>) -> u64
-    ensures { result ≡ errors.new.room.malformed - errors.old.room.malformed }
+    ensures count { result ≡ errors.new.room.malformed - errors.old.room.malformed }
+    ensures rest { errors.new
+        ≡ record errors.old { writer = errors.new.writer; room = errors.new.room } }
 {
     let before = errors.room.malformed();
     errors.room = reasons.write(&mut errors.writer);
@@ -39,7 +43,13 @@ pub(crate) fn tell_refusals<E: Write>(
     text: &[u8],
     outcome: &Result<u64, BatchFault>,
     errors: &mut Errors<E>,
-) {
+)
+    ensures { errors.new ≡ record errors.old {
+      writer = errors.new.writer;
+      room = errors.new.room;
+      wrong = errors.new.wrong;
+    } }
+{
     let malformed = tell(reasons, errors);
     match outcome {
         Ok(refused) if malformed < *refused => tell_hint(errors),
@@ -49,7 +59,9 @@ pub(crate) fn tell_refusals<E: Write>(
 }
 
 /// Writes how many lines were left out, where some were.
-pub(crate) fn tell_untold<E: Write>(errors: &mut Errors<E>) {
+pub(crate) fn tell_untold<E: Write>(errors: &mut Errors<E>)
+    ensures { errors.new ≡ record errors.old { writer = errors.new.writer } }
+{
     let untold = errors.room.untold();
     if untold > 0 {
         let _ = write!(errors.writer, "onixdesk: {untold} more are malformed\n");
@@ -58,7 +70,9 @@ pub(crate) fn tell_untold<E: Write>(errors: &mut Errors<E>) {
 
 /// Writes behind the answers how many lines were left out; and the hint, if so many texts were
 /// refused and others than those that are no message were among them.
-pub(crate) fn tell_end<E: Write>(refused: u64, errors: &mut Errors<E>) {
+pub(crate) fn tell_end<E: Write>(refused: u64, errors: &mut Errors<E>)
+    ensures { errors.new ≡ record errors.old { writer = errors.new.writer } }
+{
     tell_untold(errors);
     if errors.room.malformed() < refused {
         tell_hint(errors);
@@ -67,7 +81,13 @@ pub(crate) fn tell_end<E: Write>(refused: u64, errors: &mut Errors<E>) {
 
 /// Makes room anew where a client came an hour after there was: then how many lines were left out is
 /// written. It stays as it is where the clock does not say.
-pub(crate) fn renew<C: Clock, E: Write>(clock: &C, errors: &mut Errors<E>) {
+pub(crate) fn renew<C: Clock, E: Write>(clock: &C, errors: &mut Errors<E>)
+    ensures { errors.new ≡ record errors.old {
+      writer = errors.new.writer;
+      room = errors.new.room;
+      since = errors.new.since;
+    } }
+{
     if let Some(begun) = errors.since {
         match begun.elapsed(clock) {
             Ok(passed) if passed >= Duration::from_secs(HOUR_SECONDS) => {

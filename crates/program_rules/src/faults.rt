@@ -1,38 +1,12 @@
 //! Why a text is no precedence table or no table of terms. Of an item that is none its reader is asked
 //! which key makes it so: each in turn stands in one that is right, in place of that one's own.
 
-use crate::keys::{Key, RULE, TERM};
+use crate::keys::{Form, Key};
 use feed_terms::table::Terms;
 use price_rules::precedence::Precedence;
 use std::alloc::{AllocError, Global};
 use std::io::Write;
 use toml::{Table, Value};
-
-/// What a table of a kind has: the array of its items, the keys of an item, also as they are told; and
-/// how a line begins, of the whole and of an item.
-pub(crate) struct Form {
-    array: &'static str,
-    keys: &'static [Key],
-    names: &'static str,
-    whole: &'static str,
-    item: &'static str,
-}
-
-pub(crate) static RULES: Form = Form {
-    array: "rule",
-    keys: &RULE,
-    names: "series, max, codes",
-    whole: "",
-    item: "rule ",
-};
-
-pub(crate) static TERMS: Form = Form {
-    array: "term",
-    keys: &TERM,
-    names: "types, codes, scheme, supplier, currency, net, percent, tax",
-    whole: "not TOML: ",
-    item: "bad term ",
-};
 
 // A table of one item that is right, but for this key and the one beside it, which are those of
 // another.

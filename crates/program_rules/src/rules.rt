@@ -5,7 +5,8 @@ ghost use Rattle.csv_records.specs.RecordTexts.{limit};
 ghost use Rattle.csv_records.specs.Streams.{InputFits};
 ghost use Rattle.program_rules.specs.RulesFile.{ReadsTable, RulesFit, status_of};
 
-use crate::faults::{RULES, write_fault};
+use crate::faults::write_fault;
+use crate::keys::RULES;
 use crate::unread::read_text;
 use csv_records::streams::InputFault;
 use price_rules::precedence::{Precedence, PrecedenceFault};

@@ -7,7 +7,8 @@ ghost use Rattle.feed_terms.specs.Reading.{TermsFit};
 ghost use Rattle.feed_terms.specs.declared.reading.ReadFault.{ReadFault};
 ghost use Rattle.program_rules.specs.TermsRead.{IsUnreadTable, ReadsTerms, terms_status};
 
-use crate::faults::{TERMS, write_fault};
+use crate::faults::write_fault;
+use crate::keys::TERMS;
 use crate::unread::read_text;
 use csv_records::streams::InputFault;
 use feed_terms::reading::{ReadFault, terms_of};

@@ -131,8 +131,7 @@ impl<'a> Reasons<'a> {
     {
         let mut reasons = Reasons::of_exchange(alloc, room);
         reasons.name = name;
-        let text = std::str::from_utf8(bytes).unwrap_or("");
-        reasons.lines = Some(RecordLines::new(alloc, text));
+        reasons.lines = Some(RecordLines::new(bytes));
         reasons
     }
 

@@ -69,25 +69,22 @@ fn report_text<E: Write>(
     alloc: Global,
     name: &str,
     text: &[u8],
-    fault: PrecedenceFault,
+    fault: &PrecedenceFault,
     is_option: bool,
     errors: &mut E,
-) -> RulesFault
-    ensures { result ≡ RulesFault.Table fault }
-{
-    let number = match &fault {
+) {
+    let number = match fault {
         PrecedenceFault::BadRule { index } => Some(*index as usize),
         PrecedenceFault::NotToml => None,
         PrecedenceFault::Memory => {
             report(&Fault::Memory, errors);
-            return RulesFault::Table(fault);
+            return;
         }
     };
     if is_option {
         let _ = write!(errors, "onixdesk: rules: {fault}\n");
     }
     write_fault(alloc, &RULES, name, text, number, errors);
-    RulesFault::Table(fault)
 }
 
 /// Reads the table in the file of this name. If there is none, or the file cannot be read, that is
@@ -107,12 +104,11 @@ pub fn open_table<F: NamedFiles, E: Write>(
         Ok(text) => text,
         Err(fault) => return Err(report_unread(fault, name, is_option, errors)),
     };
-    match table_of(alloc, text.as_slice()) {
-        Err(RulesFault::Table(fault)) => {
-            Err(report_text(alloc, name, text.as_slice(), fault, is_option, errors))
-        }
-        read => read,
+    let read = table_of(alloc, text.as_slice());
+    if let Err(RulesFault::Table(fault)) = &read {
+        report_text(alloc, name, text.as_slice(), fault, is_option, errors);
     }
+    read
 }
 
 /// The exit status after a fault: 3 when out of memory, else 2.

@@ -1,12 +1,9 @@
 -- What the lines on standard error say.
-use Rattle.std.specs.Prelude.{ℕ, Bool, ◌==◌, ◌++◌, List, [], if◌then◌else◌}
+use Rattle.std.specs.Prelude.{ℕ, Bool, ◌==◌, ◌++◌, List, if◌then◌else◌}
 use Rattle.std.specs.Prelude.{chars, codes, length, nat_eq, nat_lt, take}
 use Rattle.std.specs.Fmt.{decimal}
 use Rattle.std.specs.Str.Lossy.{utf8_lossy}
 use Rattle.std.specs.List.{after_first, before_first, position_or_len}
-use Rattle.std.specs.Str.{bytes_eq}
-use Rattle.feed_files.specs.declared.reasons.Fate.{Fate}
-use Rattle.feed_files.specs.declared.reasons.Fate.TheVariants as fate
 use Rattle.feed_xml.specs.declared.position.Position.{Position}
 use Rattle.watched_output.specs.Shown.{shown}
 
@@ -35,21 +32,3 @@ abbrev pub place_text : List ℕ → Position → List ℕ
 place_text file place =
     codes "onixdesk: " ++ shown 100 (chars file) ++ codes ":" ++ decimal place.line ++ codes ":"
     ++ decimal place.column ++ codes ": "
-
--- what becomes of an element of a name
-abbrev pub fate_words : Fate → List ℕ → List ℕ
-fate_words fate.Emptied name = codes " emptied: "
-fate_words fate.Lost name = codes " left out: "
-fate_words fate.LeftOut name =
-    if bytes_eq name (codes "Territory") then codes " without " else codes " left out: "
-fate_words _ name = codes " "
-
--- the same, and why
-abbrev pub fate_text : Fate → List ℕ → List ℕ → List ℕ → List ℕ
-fate_text fate name words value = value_text name ++ fate_words fate name ++ filled words value
-
--- the line of a count, where it is not 0
-abbrev pub count_line : List ℕ → List ℕ → ℕ → List ℕ
-count_line prefix words count =
-    if count == 0 then []
-    else prefix ++ words ++ codes ": " ++ decimal count ++ codes "\n"

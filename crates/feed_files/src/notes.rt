@@ -1,7 +1,6 @@
 //! Notes on what is left out of the message of a FILE.
 
-ghost use Rattle.std.specs.Prelude.{◌≡◌, ◌==◌, ◌++◌, [], OnOk, false, string_bytes};
-ghost use Rattle.std.specs.List.{before_first};
+ghost use Rattle.std.specs.Prelude.{◌≡◌, ◌++◌, OnOk, string_bytes};
 ghost use Rattle.feed_files.specs.Lines.{place_text};
 
 use crate::counts::{count_again, count_product, is_of_others};
@@ -65,9 +64,7 @@ pub struct Notes<'a> {
 }
 
 // The name of a stranger, of how it is called: its name, and the addresses of namespaces.
-fn name_of_stranger(called: &[u8]) -> &[u8]
-    ensures { result.now ≡ before_first (λ b. b == 10) called.entry.now }
-{
+fn name_of_stranger(called: &[u8]) -> &[u8] {
     match called.iter().position(|byte| *byte == b'\n') {
         Some(end) => called.get(..end).unwrap_or(called),
         None => called,
@@ -150,12 +147,7 @@ impl Lines {
 
 impl<'a> Notes<'a> {
     /// None yet, of a FILE that is read so.
-    pub(crate) fn new(alloc: Global, file: &'a str, options: &'a Options<'a>) -> Notes<'a>
-        ensures file { result.scope.file ≡ file }
-        ensures said { (string_bytes result.all.text ≡ []) × (string_bytes result.of_wrong.text ≡ []) }
-        ensures seen { (result.has_products ≡ false) × (string_bytes result.header ≡ [])
-            × (string_bytes result.stranger ≡ []) }
-    {
+    pub(crate) fn new(alloc: Global, file: &'a str, options: &'a Options<'a>) -> Notes<'a> {
         let none = |text| Lines {
             text,
             others: 0,
@@ -174,6 +166,13 @@ impl<'a> Notes<'a> {
             header: String::new(alloc),
             stranger: String::new(alloc),
             opening: None,
+        }
+    }
+
+    // Takes notice of how a stranger is called. Without memory less is said of it.
+    fn notice_stranger(&mut self, called: &[u8]) {
+        if self.stranger.is_empty() && !called.is_empty() {
+            let _ = push_value(&mut self.stranger, name_of_stranger(called));
         }
     }
 
@@ -227,6 +226,7 @@ impl<'a> Notes<'a> {
         }
         self.summary
             .count(Beside::Again, count_again(None, &header.below, false));
+        self.notice_stranger(first_called(&header.below));
         if self.header.is_empty() {
             if let Some(found) = malformed_field(&options.choices, &header.below) {
                 let _ = write!(self.header, "{:?} ", found.field);
@@ -235,22 +235,14 @@ impl<'a> Notes<'a> {
         }
     }
 
-    /// Takes notice of a Header, of a stranger, or of what says that there is no Product. Without
-    /// memory less is said of a stranger.
+    /// Takes notice of a Header, of a stranger, or of what says that there is no Product.
     pub(crate) fn notice(&mut self, element: &Composite<'_>) {
-        let called = match element.line.name {
-            b"Header" => {
-                self.notice_header(element);
-                first_called(&element.below)
-            }
-            b":" => element.line.called.as_slice(),
-            _ => {
-                self.has_products = true;
-                b""
-            }
-        };
-        if self.stranger.is_empty() && !called.is_empty() {
-            let _ = push_value(&mut self.stranger, name_of_stranger(called));
+        if element.line.name == b"Header".as_slice() {
+            self.notice_header(element);
+        } else if element.line.name == b":".as_slice() {
+            self.notice_stranger(element.line.called.as_slice());
+        } else {
+            self.has_products = true;
         }
     }
 

@@ -1,9 +1,5 @@
 //! Why the message of a FILE is refused.
 
-ghost use Rattle.std.specs.Prelude.{◌≡◌, ◌++◌, OnOk, codes, string_bytes};
-ghost use Rattle.feed_files.specs.Lines.{place_text};
-ghost use Rattle.feed_xml.specs.Positions.{first_position};
-
 use crate::notes::{Notes, push_place};
 use crate::reasons::STRANGER;
 use crate::shown::push_words;
@@ -141,6 +137,22 @@ fn of_refused<'a>(refusal: &'a Refusal, notes: &'a Notes<'_>) -> (Position, Word
     }
 }
 
+// Adds the numbers of a refusal that has such.
+fn push_numbers(
+    line: &mut String,
+    refusal: &Refusal,
+    options: &Options<'_>,
+) -> Result<(), AllocError> {
+    match refusal {
+        Refusal::Wrong(wrong, products, _, _) => write!(line, "{wrong} of {products}"),
+        Refusal::Parts(count, _) => {
+            let parts = options.choices.parts;
+            write!(line, "the message needs {count} parts, not {parts}; ")
+        }
+        _ => Ok(()),
+    }
+}
+
 /// Adds the line of a FILE that was not converted, unless memory ran out; before it the lines on
 /// wrong products, where it is refused for these.
 pub(crate) fn push_refusal(
@@ -158,26 +170,15 @@ pub(crate) fn push_refusal(
     }
     push_place(line, known.file, place)?;
     line.push_str("refused: ")?;
-    match fault {
-        Fault::Refused(Refusal::Wrong(wrong, products, _, _)) => {
-            write!(line, "{wrong} of {products}")?;
-        }
-        Fault::Refused(Refusal::Parts(count, _)) => {
-            let parts = known.options.choices.parts;
-            write!(line, "the message needs {count} parts, not {parts}; ")?;
-        }
-        _ => {}
+    if let Fault::Refused(refusal) = fault {
+        push_numbers(line, refusal, known.options)?;
     }
     push_words(line, words, value)?;
     line.push_str("\n")
 }
 
 /// Adds the line of a FILE that is packed by its name.
-pub(crate) fn push_packed(line: &mut String, file: &str) -> Result<(), AllocError>
-    ensures { OnOk result (string_bytes line.new ≡ string_bytes line.old
-        ++ place_text file.now first_position
-        ++ codes "refused: packed; gunzip -c or unzip -p unpacks it\n") }
-{
+pub(crate) fn push_packed(line: &mut String, file: &str) -> Result<(), AllocError> {
     push_place(line, file, Position::first())?;
     line.push_str("refused: packed; gunzip -c or unzip -p unpacks it\n")
 }

@@ -1,7 +1,6 @@
 //! What is counted of the FILEs of a run.
 
-ghost use Rattle.std.specs.Prelude.{◌≡◌, ◌<◌, ◌++◌, [], OnOk, replicate, slice_index, slice_index_or, string_bytes};
-ghost use Rattle.feed_files.specs.Lines.{count_line};
+ghost use Rattle.std.specs.Prelude.{◌<◌};
 
 use crate::reasons::{Told, push_fate};
 use feed_mapping::Note;
@@ -59,10 +58,7 @@ pub struct Summary {
 }
 
 impl Summary {
-    pub(crate) fn new(alloc: Global) -> Summary
-        ensures reasons { result.reasons.items ≡ [] }
-        ensures counts { result.counts ≡ replicate 13 0 }
-    {
+    pub(crate) fn new(alloc: Global) -> Summary {
         Summary {
             reasons: Vec::new(alloc),
             counts: [0; 13],
@@ -70,9 +66,7 @@ impl Summary {
     }
 
     /// Counts so many more of that.
-    pub(crate) fn count(&mut self, what: Beside, more: u64)
-        ensures { self.new ≡ record self.old { counts = self.new.counts } }
-    {
+    pub(crate) fn count(&mut self, what: Beside, more: u64) {
         if let Some(count) = self.counts.get_mut(what as usize) {
             *count = count.saturating_add(more);
         }
@@ -118,9 +112,6 @@ impl Summary {
     // Adds the line of a count that is not 0.
     fn push_count(&self, place: usize, prefix: &str, text: &mut String) -> Result<(), AllocError>
         requires { place < 13 }
-        ensures { OnOk result (string_bytes text.new ≡ string_bytes text.old
-            ++ count_line prefix.now (slice_index_or WORDS place prefix).now
-            (slice_index self.now.counts place)) }
     {
         match self.counts[place] {
             0 => Ok(()),

@@ -174,11 +174,11 @@ fn push_misnamed(text: &mut String, name: &str, words: &str) -> Result<(), Alloc
         Some(_) if front.len() < name.len() => {
             text.push_str("separate fields by commas, not by semicolons")
         }
-        Some(known) => write!(text, "write {known}"),
-        None if name.starts_with('<') => text.push_str(
+        Some(known) if known != name => write!(text, "write {known}"),
+        _ if name.starts_with('<') => text.push_str(
             "this is XML; make records of it first: onixdesk convert FILE > FILE.csv",
         ),
-        None => text.push_str(words),
+        _ => text.push_str(words),
     }
 }
 

@@ -1,7 +1,6 @@
 """Refuses one request for memory in each run of the tests of the desks: of messages, waivers, questions, choices with
 calendars and exchanges over the desk in memory and over tables; of forty messages that are applied at once, over the
-desk in memory and over files with the rows of their tables; of a migration; and of the two calls for the text of
-contents.
+desk in memory and over files with the rows of their tables; and of a migration.
 
     tests/refused-memory [--longer] [-k TEXT] [PROGRAM]
 
@@ -22,13 +21,11 @@ from tests.memory.sweep import Sweep
 MEMORY = "stores::desks::desk_in_memory"
 TABLES = "stores::desks::tables_in_memory"
 FILES = "stores::desks::tables_in_files"
-CONTENTS = "contents::texts_of_contents"
 
 # The first runs to the end of its list. The forty messages are applied over tables once, in files.
 SWEEPS = [
     Sweep(MEMORY, "steps"),
     Sweep(TABLES, "steps", ends=True),
-    Sweep(TABLES, "three", ends=True),
     Sweep(MEMORY, "questions", ends=True),
     Sweep(TABLES, "questions", ends=True),
     Sweep(MEMORY, "exchanges", ends=True),
@@ -36,7 +33,6 @@ SWEEPS = [
     Sweep(MEMORY, "drain", ends=True),
     Sweep(FILES, "rows", ends=True),
     Sweep(FILES, "migration", ends=True),
-    Sweep(CONTENTS, ends=True),
 ]
 
 
@@ -51,7 +47,6 @@ LONGER = [
     Sweep(TABLES, "drain", step=31),
     Sweep("stores::desks::desk_in_files", "steps", step=499),
     Sweep("stores::desks::desk_in_files", "drain", step=97),
-    Sweep(FILES, "refused", step=101),
 ]
 
 

@@ -105,9 +105,8 @@ class OfRestore(Scenario):
             self.room.write(f"desk/{name}", data)
 
     def words(self) -> Sequence[Word]:
-        places = [f"--{name}=none" for name in ("inboxes", "settings")]
         # The desk's messages beyond the copy were posted by hand.
-        return [ROOT / "bin/desk-restore", "--db", f"desk/{DATABASE}", *places, "--gaps", "--yes", "copy"]
+        return [ROOT / "bin/desk-restore", "--db", f"desk/{DATABASE}", "--settings=none", "--gaps", "--yes", "copy"]
 
     def environment(self) -> Mapping[str, str]:
         return {**os.environ, "PATH": f"{self.room.path('programs')}:{os.environ['PATH']}"}

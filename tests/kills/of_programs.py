@@ -67,7 +67,7 @@ class OfRenewal(OfRestore):
         self.script("systemctl", "exit 0")
 
     def words(self) -> Sequence[Word]:
-        places = ["--inboxes=none", "--settings=none", f"--program={self.room.program}"]
+        places = ["--settings=none", f"--program={self.room.program}"]
         return [ROOT / "bin/desk-renew", "--db", f"desk/{DATABASE}", *places, "--yes"]
 
     def rows_in(self, folder: str) -> dict[str, list[Row]]:
@@ -114,9 +114,7 @@ class OfCorrection(OfRenewal):
         room.write("after.csv", room.run("--db", DATABASE, "export").output)
         self.moved("wanted")
         self.wanted = self.rows_in("wanted")
-        self.restore = (
-            f"{ROOT}/bin/desk-restore --db={room.path('desk')}/{DATABASE} --inboxes=none --settings=none --yes"
-        )
+        self.restore = f"{ROOT}/bin/desk-restore --db={room.path('desk')}/{DATABASE} --settings=none --yes"
         self.script("onixdesk", f'exec "{room.program}" "$@"')
         self.script("desk-copy", f'exec "{ROOT}/bin/desk-copy" "$@"')
         self.script("desk-restore", f'exec {self.restore} "$@"')

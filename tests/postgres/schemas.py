@@ -101,8 +101,7 @@ def role_of_readers(cluster: Cluster, room: Room) -> Iterator[Outcome]:
         wanted = None if is_let else "42501"
         yield Outcome(f"a reader who is let: {is_let}", state_of(partial(ask, words, ASKED)), wanted)
     yield Outcome("a reader, let", len(ask(words, ASKED)), 1)
-    state = state_of(partial(execute, words, "DELETE FROM desk.price"))
-    yield Outcome("a reader who writes", state, "42501")
+    yield Outcome("a reader who writes", state_of(partial(execute, words, "DELETE FROM desk.price")), "42501")
 
 
 def faults(cluster: Cluster, room: Room) -> Iterator[Outcome]:

@@ -58,8 +58,7 @@ def snapshot_of_before(cluster: Cluster, room: Room) -> Iterator[Outcome]:
             except psycopg2.Error as error:
                 refusal = error.diag.message_primary
             cursor.execute("ROLLBACK TO before")
-            wanted = "the tables of schema desk are newer than this transaction"
-            yield Outcome("a snapshot of before", refusal, wanted)
+            yield Outcome("a snapshot of before", refusal, "the tables of schema desk are newer than this transaction")
 
 
 def several_series(cluster: Cluster, room: Room) -> Iterator[Outcome]:

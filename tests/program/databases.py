@@ -6,7 +6,6 @@ from collections.abc import Iterator
 from contextlib import closing
 from functools import partial
 
-from tests.program.messages import AGREED, AGREEMENT, applied, bare, held
 from tests.program.room import UNREADABLE, Group, Ran, Room
 from tests.program.written_cases import TESTS, Written, read_file
 from tests.running import Outcome
@@ -97,26 +96,6 @@ def after_batches(case: Written, room: Room) -> Iterator[Outcome]:
             yield Outcome(f"{name}, rows", (all_rows(room), complaints(room)), (wanted_rows, []))
 
 
-# The row of the series before a number.
-SERIES = "INSERT INTO series VALUES ('north', '06', '4012345000009', '06', '5012345678900', 1, {});"
-
-
-def forty_messages_backwards(room: Room) -> Iterator[Outcome]:
-    """Two days of a shop, each batch a run of the program."""
-    yield Outcome("forty messages: the agreement", batch(room, AGREEMENT), Ran(0, AGREED))
-    backwards = range(41, 1, -1)
-    waiting = "".join(f"INSERT INTO held VALUES ('north', {number}, '');" for number in backwards)
-    done = "".join(f"INSERT INTO applied VALUES ('north', {number}, '', 0, 0, 0, 0, 0);" for number in range(1, 42))
-    for numbers, answers, statements in [
-        (backwards, b"".join(held(number, 1) for number in backwards), SERIES.format(1) + waiting),
-        (range(1, 2), applied(1), SERIES.format(42) + done),
-    ]:
-        came = batch(room, b"".join(map(bare, numbers))), all_rows(room)
-        yield Outcome(f"forty messages: {numbers}", came, (Ran(0, answers), rows_made(room, statements)))
-    report = b"gaps,north,first=1,next=42,greatest=41,held=0,missing=0\n"
-    yield Outcome("forty messages: the gaps", gaps(room), Ran(0, report))
-
-
 META = "CREATE TABLE meta (item TEXT PRIMARY KEY, amount INTEGER);"
 
 # Statements that make a database, and what the program says of it.
@@ -142,8 +121,7 @@ REFUSED = [
 def is_refused(statements: str, line: bytes, room: Room) -> Iterator[Outcome]:
     """The database is opened before anything is read."""
     execute(room, statements)
-    came = room.run("--db", DATABASE, "batch", given=UNREADABLE)
-    yield Outcome(f"refused: {statements}", came, Ran(3, b"", line))
+    yield Outcome(f"refused: {statements}", room.run("--db", DATABASE, "batch", given=UNREADABLE), Ran(3, b"", line))
 
 
 def is_opened_first(room: Room) -> Iterator[Outcome]:

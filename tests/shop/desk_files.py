@@ -129,8 +129,7 @@ class Shop:
         self.copies = folder / "copies"
         self.settings = folder / "settings"
         number = f"NUMBER={settings.get('number', 'own')}\n"
-        places = {"db": self.database, "copies": self.copies, "settings": self.settings}
-        self.options: dict[str, Any] = {**places, "inboxes": self.inbox.places.inboxes, "program": Path("true")}
+        self.options: dict[str, Any] = {"db": self.database, "settings": self.settings, "program": Path("true")}
         self.settings.joinpath(f"{SERIES}.conf").write_text(f"SENDER={','.join(SENDER)}\n{number}")
         self.units: list[str] = []
         self.failing = ""

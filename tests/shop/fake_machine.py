@@ -71,6 +71,7 @@ class FakeMachine(Machine):
         self.lines: list[tuple[int, str]] = []
         self.errors = io.StringIO()
         self.posted: list[bytes] = []
+        self.program_seconds = 0
         self.written = ""
 
     @property
@@ -170,6 +171,8 @@ class FakeMachine(Machine):
         seconds: float | None = None,
     ) -> Ended:
         self.step("child")
+        if {"convert", "check"}.intersection(words) and (seconds or 0) < self.program_seconds:
+            raise BadEnd("onixdesk takes too long")
         ended = fake_program.ended([str(word) for word in words], text if isinstance(text, bytes) else b"".join(text))
         if ended.status not in known:
             raise BadEnd(f"{words[0]} ended with status {ended.status}")

@@ -12,7 +12,7 @@ from onixdesk_shop.inbox import decide, run
 from onixdesk_shop.inbox.context import Inbox, Places
 from onixdesk_shop.inbox.ledger import File, Ledger
 from onixdesk_shop.machine import Machine
-from onixdesk_shop.places import LEDGER, STORE
+from onixdesk_shop.places import INBOXES, LEDGER, STORE
 from onixdesk_shop.settings import Settings
 from onixdesk_shop.shop_json import Shop
 from tests.shop.fake_desk import FakeDesk, Series
@@ -50,7 +50,7 @@ class ProgramMachine(FakeMachine):
 
 class FakeInbox:
     def __init__(self, folder: Path, program: Path | None = None, **settings: Any) -> None:
-        names = ("incoming", "inboxes", "state", "rules")
+        names = ("incoming", INBOXES.name, "state", "rules")
         self.places = Places(program or folder / "program", *(folder / name for name in names))
         for place in (self.places.incoming, self.places.inboxes, self.places.state):
             (place / SERIES).mkdir(parents=True)

@@ -7,7 +7,7 @@ use Rattle.desk_tables.specs.Transactions.{NoAnswer}
 use Rattle.desk_tables.specs.declared.work.Work.{Work}
 use Rattle.sqlite_trees.specs.declared.store.Store.{Ghosts}
 use Rattle.desk_catalogue.specs.Achieves.{Does}
-use Rattle.desk_catalogue.specs.Calls.{ChangesRows}
+use Rattle.desk_catalogue.specs.Calls.{ChangesRows, KeepsRows}
 use Rattle.desk_catalogue.proofs.AchievesLemmas.{achieves_added, achieves_also, achieves_answers, achieves_as, achieves_call, achieves_nothing, achieves_stopped, achieves_then, does}
 
 -- ---- one call of `Work`
@@ -82,6 +82,14 @@ pub did_then : {S A B : Type 0} {store : Ghosts S} {First : DeskRows → A → D
 did_then {S} {A} {B} {store} {First} {Second} {Post} {old} {mid} {new} {a} {result} first second join =
     does (second.same_reference ∙ first.same_reference)
     (achieves_then First Second Post (seen store old) (seen store mid) (seen store new) a result first.achieves second.achieves (λ rows between after b h m n. join rows between after b))
+
+-- two answers of the same rows
+pub both_told : {S A B : Type 0} {store : Ghosts S} {old mid new : Work S} {a : A}
+    {result : Result B StoreFault} (First : DeskRows → A → Type 0) (Second : DeskRows → B → Type 0)
+    → Does store (KeepsRows First) old mid (Ok a) → Does store (KeepsRows Second) mid new result
+    → Does store (KeepsRows (λ rows b. First rows a × Second rows b)) old new result
+both_told First Second one two =
+    did_then one two (λ rows between after b first second. (second.0 ∙ first.0, (first.1, subst (λ (d : DeskRows). Second d b) first.0 second.1)))
 
 -- one change, and then another
 pub changed_then : {S A B : Type 0} {store : Ghosts S} {first second : DeskRows → DeskRows}

@@ -17,7 +17,8 @@ use Rattle.desk_catalogue.specs.EntryRows.{record_row}
 use Rattle.desk_catalogue.specs.Holding.{Became, HoldsCatalogue, HoldsEntry}
 use Rattle.desk_catalogue.specs.Storable.{AreStorable, IsStorableProduct}
 use Rattle.desk_catalogue.specs.AppliedProducts.{IsChanged, IsProductApplied}
-use Rattle.desk_catalogue.specs.ReadRows.{Finds, has_same_identifiers, has_same_supplies, is_there}
+use Rattle.desk_catalogue.specs.ReadRows.{has_same_identifiers, has_same_supplies, is_there}
+use Rattle.desk_catalogue.specs.Runs.{IsFoundOf}
 use Rattle.desk_catalogue.specs.declared.record_rows.FoundRecord.{FoundRecord}
 use Rattle.desk_catalogue.specs.declared.record_rows.FoundRecord.TheVariants.{Absent, Present}
 use Rattle.desk_catalogue.proofs.HoldingLemmas.{became_itself, catalogue_became, catalogues_kept, record_stays, supplies_stay}
@@ -97,16 +98,15 @@ deleted_unknown row p found rows is (Some e) h finds storable = absurd (some_not
 -- ---- one product
 
 pub product_applied : (s : List ℕ) (m : ByReference) (p : Product) (row : RecordRow) (change : Change) (found : FoundRecord) (before effect : Effect) (rows after : DeskRows) → row ≡ record_row s p.reference → change ≡ change_of p.notification
-    → Finds row p rows found → IsChanged change row p found rows after → ((was : Option Entry) → is_some was ≡ is_there found → effect ≡ counted change was before)
+    → IsFoundOf s m p found → IsChanged change row p found rows after → ((was : Option Entry) → is_some was ≡ is_there found → effect ≡ counted change was before)
     → HoldsCatalogue s m rows → IsStorableProduct p → IsProductApplied s m p before rows effect after
 product_applied s m p row change found before effect rows after is asks finds changed counts held storable =
     let r = p.reference in
     let o = fin.get m r in
-    let own_find = subst (λ (x : RecordRow). Finds x p rows found) is finds o (held r) in
     let own = subst (λ (x : Change). IsChanged x row p found rows after) asks changed in
-    let became = subst (λ (x : RecordRow). IsChanged (change_of p.notification) x p found rows after) is own o (held r) own_find storable in
+    let became = subst (λ (x : RecordRow). IsChanged (change_of p.notification) x p found rows after) is own o (held r) finds storable in
     record {
       catalogue = catalogue_became s m r (entry_after (change_of p.notification) p o) rows after held became;
-      counts = counts o own_find.there ∙ ap (λ x. counted x o before) asks;
+      counts = counts o finds.there ∙ ap (λ x. counted x o before) asks;
       others = catalogues_kept s r (entry_after (change_of p.notification) p o) rows after became;
     }

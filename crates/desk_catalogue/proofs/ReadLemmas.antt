@@ -19,7 +19,7 @@ use Rattle.desk_catalogue.proofs.HeldLemmas.{held_articles, held_offer_rows}
 use Rattle.desk_catalogue.proofs.HeldPriceLemmas.{held_prices}
 use Rattle.desk_catalogue.specs.Holding.{HoldsEntry}
 use Rattle.desk_catalogue.specs.Storable.{IsStorable}
-use Rattle.desk_catalogue.specs.ReadRows.{AreReadAs, Finds, HasIdentifierRows, HasPricesOf, HasSupplyRows, HoldsSupplies, IsReadAs, TellsIdentifiers, TellsRecord}
+use Rattle.desk_catalogue.specs.ReadRows.{AreReadAs, Finds, HasIdentifierRows, HasPricesOf, HasSupplyRows, HoldsSupplies, IsReadAs, TellsIdentifiers}
 use Rattle.desk_catalogue.specs.declared.record_rows.FoundRecord.TheVariants.{Present}
 use Rattle.desk_catalogue.proofs.Additions.{take_push}
 use Rattle.std.proofs.lemmas.List.Elements.{All-map}
@@ -77,7 +77,8 @@ some_of [] e none = cc
 some_of (x ∷ xs) e none = cc
 
 -- a record is there where it has identifiers
-pub record_told : (row : RecordRow) (rows : DeskRows) (got : List ArticleRow) (lacks : Bool) → AreArticlesOf row.series row.reference rows got → (lacks ≡ true → got ≡ []) → (lacks ≡ false → got ≡ [] → ⊥) → TellsRecord row rows (not lacks)
+pub record_told : (row : RecordRow) (rows : DeskRows) (got : List ArticleRow) (lacks : Bool) → AreArticlesOf row.series row.reference rows got → (lacks ≡ true → got ≡ []) → (lacks ≡ false → got ≡ [] → ⊥)
+    → (o : Option Entry) → HoldsEntry row.series row.reference o rows → is_some o ≡ not lacks
 record_told row rows got true are none some None held = refl
 record_told row rows got true are none some (Some e) held =
     absurd (held.storable.0 (no_ids row.series row.reference e.ids (sym (held_articles row.series row.reference (Some e) rows got held are) ∙ none refl)))

@@ -1,5 +1,5 @@
 -- Runs of new records, and products applied some at a time.
-use Rattle.std.proofs.Common.{◌≡◌, ℕ, suc, ◌+◌, ◌<◌, ◌||◌, ◌&&◌, not, Bool, true, false, List, [], ◌∷◌, ◌++◌, length, map, filter, get_or, take, Option, Some, None, arith, append-nil, refl, sym, ap, subst, ◌∙◌}
+use Rattle.std.proofs.Common.{◌≡◌, ℕ, suc, ◌+◌, ◌||◌, ◌&&◌, not, Bool, true, false, List, [], ◌∷◌, ◌++◌, length, map, filter, Option, Some, None, arith, append-nil, refl, sym, ap, subst, ◌∙◌}
 use Rattle.std.specs.FinMap as fin
 use Rattle.std.specs.List.{All, list_any}
 use Rattle.std.specs.Option.{is_some}
@@ -20,15 +20,18 @@ use Rattle.desk_tables.specs.RecordRows.{minimum_row, offer_row, price_row}
 use Rattle.desk_tables.specs.Rows.{DeskRows}
 use Rattle.desk_tables.specs.declared.records.RecordRow.{RecordRow}
 use Rattle.desk_tables.proofs.ManyRows.{mapped_behind}
-use Rattle.desk_catalogue.specs.AppliedProducts.{IsProductApplied}
+use Rattle.desk_catalogue.specs.AppliedProducts.{IsCatalogueReadAs, IsProductApplied}
+use Rattle.desk_catalogue.specs.Calls.{FindsAs}
 use Rattle.desk_catalogue.specs.EntryRows.{article_rows, has_minimum, offer_rows_of, price_rows_of, record_row}
 use Rattle.desk_catalogue.specs.Holding.{Became, HoldsCatalogue, HoldsEntry, other_catalogues}
-use Rattle.desk_catalogue.specs.ReadRows.{TellsRecord}
-use Rattle.desk_catalogue.specs.Runs.{brings_new, is_replace, is_replaced, AreApplied, AreNew, IsNew}
+use Rattle.desk_catalogue.specs.ReadRows.{Finds, IsFound, is_there}
+use Rattle.desk_catalogue.specs.Runs.{brings_new, is_replace, is_replaced, AreApplied, AreNew, IsFoundOf, IsNew}
+use Rattle.desk_catalogue.specs.declared.record_rows.FoundRecord.{FoundRecord}
 use Rattle.desk_catalogue.specs.Storable.{IsStorableProduct}
 use Rattle.desk_catalogue.specs.WrittenRows.{articles_of, offers_of, prices_of, records_of, with_identified, with_products, with_supplies}
 use Rattle.desk_catalogue.proofs.BecameLemmas.{record_written}
 use Rattle.desk_catalogue.proofs.HoldingLemmas.{catalogue_became, catalogues_kept}
+use Rattle.desk_catalogue.proofs.MinimumLemmas.{record_read_as}
 
 -- ---- the rows of products
 
@@ -81,24 +84,30 @@ both_are true false e = (refl, refl)
 both_are true true e = absurd (cc)
 both_are false b e = absurd (cc)
 
+-- the products leave what another reference has
+pub others_stay : (m : ByReference) (ps : List Product) (r : List ℕ) → list_any (λ p. bytes_eq p.reference r) ps ≡ false → fin.get (after_all m ps) r ≡ fin.get m r
+others_stay m [] r none = refl
+others_stay m (p ∷ ps) r none =
+    let apart = neither (bytes_eq p.reference r) (list_any (λ x. bytes_eq x.reference r) ps) none in
+    others_stay (after_product m p) ps r apart.1 ∙ others_had m p r apart.0
+
 -- it was found to be one
-pub found_new : (s : List ℕ) (m : ByReference) (p : Product) (row : RecordRow) (there : Bool) (rows : DeskRows) → row ≡ record_row s p.reference → TellsRecord row rows there → brings_new p there ≡ true → HoldsCatalogue s m rows → IsNew m p
-found_new s m p row there rows is tells new held =
-    let parts = both_are (is_replaced p) there new in
-    let own = subst (λ (x : RecordRow). TellsRecord x rows there) is tells (fin.get m p.reference) (held p.reference) in
-    record { replaces = parts.0; absent = absent_is (fin.get m p.reference) (own ∙ parts.1) }
+pub found_new : (s : List ℕ) (m : ByReference) (p : Product) (found : FoundRecord) → IsFoundOf s m p found → brings_new p (is_there found) ≡ true → IsNew m p
+found_new s m p found is new =
+    let parts = both_are (is_replaced p) (is_there found) new in
+    record { replaces = parts.0; absent = absent_is (fin.get m p.reference) (is.there ∙ parts.1) }
 
--- the first of the products is one
-pub first_new : (m : ByReference) (p : Product) (ps : List Product) → 0 < length ps → p ≡ get_or ps 0 p → IsNew m p → AreNew m (take 1 ps)
-first_new m p [] some is new = absurd (omega (arith, some))
-first_new m p (q ∷ ps) some is new = (subst (IsNew m) is new, tt)
+-- what was found of it is so behind products of other references
+pub found_behind : (with_minimums : Bool) (s : List ℕ) (m : ByReference) (ps : List Product) (p : Product) (row : RecordRow) (found : FoundRecord) (rows : DeskRows) → row ≡ record_row s p.reference → FindsAs with_minimums row p rows found → HoldsCatalogue s m rows
+    → IsCatalogueReadAs with_minimums m → list_any (λ q. bytes_eq q.reference p.reference) ps ≡ false → IsFoundOf s (after_all m ps) p found
+found_behind with_minimums s m ps p row found rows is finds held reads none =
+    let own = subst (λ (x : RecordRow). Finds x p rows found) is (finds (record_read_as with_minimums s p.reference m row rows is held reads)) in
+    subst (λ (o : Option Entry). IsFound (record_row s p.reference) p o found) (sym (others_stay m ps p.reference none)) (own (fin.get m p.reference) (held p.reference))
 
--- one more after them, of another reference
-pub new_behind : (m : ByReference) (ps : List Product) (p : Product) → AreNew m ps → IsNew m p → list_any (λ q. bytes_eq q.reference p.reference) ps ≡ false → AreNew m (ps ++ p ∷ [])
-new_behind m [] p new one none = (one, tt)
-new_behind m (q ∷ ps) p new one none =
-    let apart = neither (bytes_eq q.reference p.reference) (list_any (λ x. bytes_eq x.reference p.reference) ps) none in
-    (new.0, new_behind (after_product m q) ps p new.1 (record { replaces = one.replaces; absent = others_had m q p.reference apart.0 ∙ one.absent }) apart.1)
+-- one more after them
+pub new_behind : (m : ByReference) (ps : List Product) (p : Product) → AreNew m ps → IsNew (after_all m ps) p → AreNew m (ps ++ p ∷ [])
+new_behind m [] p new one = (one, tt)
+new_behind m (q ∷ ps) p new one = (new.0, new_behind (after_product m q) ps p new.1 one)
 
 -- the rest of the products
 rest_all : {A : Type 0} (P : A → Type 0) (x : A) (xs : List A) → All P (x ∷ xs) → All P xs
@@ -148,11 +157,8 @@ run_counted m (p ∷ ps) before new =
 
 -- ---- one product
 
-pub first_applied : (s : List ℕ) (m : ByReference) (p : Product) (ps : List Product) (before effect : Effect) (rows after : DeskRows) → 0 < length ps → p ≡ get_or ps 0 p → IsProductApplied s m p before rows effect after → AreApplied s m (take 1 ps) before rows effect after
-first_applied s m p [] before effect rows after some is one = absurd (omega (arith, some))
-first_applied s m p (q ∷ ps) before effect rows after some is one =
-    let own = subst (λ (x : Product). IsProductApplied s m x before rows effect after) is one in
-    record { catalogue = own.catalogue; counts = own.counts; others = own.others }
+pub one_applied : (s : List ℕ) (m : ByReference) (p : Product) (before effect : Effect) (rows after : DeskRows) → IsProductApplied s m p before rows effect after → AreApplied s m (p ∷ []) before rows effect after
+one_applied s m p before effect rows after one = record { catalogue = one.catalogue; counts = one.counts; others = one.others }
 
 -- ---- some of the products, and then more
 

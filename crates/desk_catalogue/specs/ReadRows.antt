@@ -21,11 +21,6 @@ use Rattle.std.specs.List.{All}
 abbrev pub HasPricesOf : DeskRows → typed.OfferRow → List Price → Type 0
 HasPricesOf rows offer prices = ArePricesAt offer.series offer.reference offer.place rows prices
 
--- whether a record is there
-abbrev pub TellsRecord : RecordRow → DeskRows → Bool → Type 0
-TellsRecord row rows b = (o : Option Entry) → HoldsEntry row.series row.reference o rows
-    → is_some o ≡ b
-
 -- the identifiers of the record have the rows of these
 abbrev pub HasIdentifierRows : RecordRow → List ProductIdentifier → List ProductIdentifier → Type 0
 HasIdentifierRows row ids was =

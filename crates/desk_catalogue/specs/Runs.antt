@@ -1,7 +1,8 @@
 -- Runs of new records, and what some of a message's products do.
-use Rattle.std.specs.Prelude.{◌≡◌, ℕ, ◌+◌, ◌<◌, ◌≤◌, ◌&&◌, not, Bool, true, false, IsTrue, List, [], ◌∷◌, None, take, ⊤}
+use Rattle.std.specs.Prelude.{◌≡◌, ℕ, ◌+◌, ◌<◌, ◌≤◌, ◌&&◌, not, Bool, true, false, List, [], ◌∷◌, Option, None, Some, get_or, take, if◌then◌else◌, ⊤}
 use Rattle.std.specs.FinMap as map
 use Rattle.std.specs.List.{All}
+use Rattle.std.specs.Option.{is_some}
 use Rattle.onix_records.specs.declared.parts.Product.{Product}
 use Rattle.catalogue_rules.specs.Effects.{after as after_all, after_product, change_of, effect_from}
 use Rattle.catalogue_rules.specs.Plans.{total}
@@ -10,14 +11,14 @@ use Rattle.catalogue_rules.specs.declared.change.Change.{Change}
 use Rattle.catalogue_rules.specs.declared.change.Change.TheVariants.{Replace}
 use Rattle.onix_records.specs.declared.effects.Effect.{Effect}
 use Rattle.desk_tables.specs.Rows.{DeskRows}
-use Rattle.desk_tables.specs.declared.records.RecordRow.{RecordRow}
 use Rattle.desk_catalogue.specs.AppliedProducts.{IsCatalogueReadAs, IsProductApplied}
 use Rattle.desk_catalogue.specs.EntryRows.{record_row}
 use Rattle.desk_catalogue.specs.Holding.{HoldsCatalogue, other_catalogues}
-use Rattle.desk_catalogue.specs.ReadRows.{Finds}
+use Rattle.desk_catalogue.specs.ReadRows.{IsFound}
 use Rattle.desk_catalogue.specs.Storable.{IsStorableProduct}
 use Rattle.desk_catalogue.specs.declared.record_rows.FoundRecord.{FoundRecord}
-use Rattle.desk_catalogue.specs.declared.runs.Step.{Step}
+use Rattle.desk_catalogue.specs.declared.runs.Run.{Run}
+use Rattle.desk_catalogue.specs.declared.messages.Step.{Step}
 
 -- ---- new records
 
@@ -43,14 +44,26 @@ abbrev pub AreNew : ByReference → List Product → Type 0
 AreNew m [] = ⊤
 AreNew m (p ∷ rest) = IsNew m p × AreNew (after_product m p) rest
 
--- with `true` the product brings a record that the catalogue of the series does not have
-abbrev pub IsNewIn : List ℕ → Product → DeskRows → Bool → Type 0
-IsNewIn series p rows b = IsTrue b → (m : ByReference) → HoldsCatalogue series m rows → IsNew m p
+-- that was found of the record of the product in a catalogue of the series
+abbrev pub IsFoundOf : List ℕ → ByReference → Product → FoundRecord → Type 0
+IsFoundOf series m p found = IsFound (record_row series p.reference) p (map.get m p.reference) found
 
--- so many of the products do, where the first does
-abbrev pub AreNewIn : List ℕ → List Product → DeskRows → ℕ → Type 0
-AreNewIn series products rows n = (m : ByReference) → HoldsCatalogue series m rows
-    → AreNew m (take 1 products) → AreNew m (take n products)
+-- how many products end a run
+abbrev pub ended : Option FoundRecord → ℕ
+ended found = if is_some found then 1 else 0
+
+-- the run begins the products, and that was found of the one that ends it
+pub record BeginsIn (series : List ℕ) (m : ByReference) (products : List Product) (run : Run)
+    : Type 0 where
+  pub new : AreNew m (take run.count products)
+  pub next : (p : Product) (found : FoundRecord) → p ≡ get_or products run.count p
+      → run.found ≡ Some found → IsFoundOf series (after_all m (take run.count products)) p found
+
+-- it does so in the catalogue of the series, where prices are read so
+abbrev pub BeginsWith : Bool → List ℕ → List Product → DeskRows → Run → Type 0
+BeginsWith with_minimums series products rows run = (m : ByReference)
+    → HoldsCatalogue series m rows → IsCatalogueReadAs with_minimums m
+    → BeginsIn series m products run
 
 -- ---- applied
 
@@ -68,21 +81,18 @@ pub record AreApplied (series : List ℕ) (m : ByReference) (products : List Pro
   pub counts : effect ≡ effect_from before m products
   pub others : other_catalogues series after ≡ other_catalogues series rows
 
--- the run that begins with the first of the products, where that is a new record
-abbrev pub AppliesRun : List ℕ → List Product → Effect → DeskRows → Step → DeskRows → Type 0
-AppliesRun series products before rows step after =
-    (m : ByReference) → HoldsCatalogue series m rows → AreNew m (take 1 products)
-    → All IsStorableProduct products
-    → AreApplied series m (take step.count products) before rows step.effect after
+-- the products, which are new records
+abbrev pub AppliesRun : List ℕ → List Product → Effect → DeskRows → Effect → DeskRows → Type 0
+AppliesRun series products before rows effect after =
+    (m : ByReference) → HoldsCatalogue series m rows → AreNew m products
+    → All IsStorableProduct products → AreApplied series m products before rows effect after
 
 -- the product, of whose record that was found
-abbrev pub AppliesFound : RecordRow → Product → FoundRecord → Effect → DeskRows → Effect → DeskRows
+abbrev pub AppliesFound : List ℕ → Product → FoundRecord → Effect → DeskRows → Effect → DeskRows
     → Type 0
-AppliesFound row p found before rows counts after =
-    (series : List ℕ) (m : ByReference) → row ≡ record_row series p.reference
-    → HoldsCatalogue series m rows → IsStorableProduct p
-    → Finds row p rows found
-    → IsProductApplied series m p before rows counts after
+AppliesFound series p found before rows effect after =
+    (m : ByReference) → HoldsCatalogue series m rows → IsStorableProduct p
+    → IsFoundOf series m p found → IsProductApplied series m p before rows effect after
 
 -- the first of the products, as many as the step has, where prices are read so
 abbrev pub AppliesSome : Bool → List ℕ → List Product → Effect → DeskRows → Step → DeskRows → Type 0

@@ -12,9 +12,9 @@ ghost use Rattle.desk_catalogue.specs.declared.record_rows.FoundRecord.{FoundRec
 ghost use Rattle.desk_tables.specs.RecordAnswers.{has_minimums};
 
 use crate::minimums::products_have_minimums;
-use crate::record_rows::{FoundRecord, find_record};
+use crate::record_rows::FoundRecord;
 use crate::records::{remove_record, replace_supplies, write_record};
-use crate::runs::{Step, apply_run, brings_new, record_row};
+use crate::runs::{apply_run, find_run, record_row};
 use catalogue_rules::change::{Change, counted};
 use desk_tables::records::RecordRow;
 use desk_tables::work::Work;
@@ -132,23 +132,33 @@ fn change_record<S: Alter>(
 fn apply_product<S: Alter>(
     alloc: Global,
     work: &mut Work<'_, S>,
-    row: &RecordRow,
+    series: &SeriesName,
     product: &Product,
     found: FoundRecord,
     effect: Effect,
 ) -> Result<Effect, StoreFault>
     requires { total effect + 1 < 2 ^ 32 }
     ensures one { IfOk result (λ e. total e ≡ total effect + 1) }
-    ensures does { Does S.Store (AppliesFound row.now product.now found effect)
+    ensures does { Does S.Store (AppliesFound series.now product.now found effect)
         work.old work.new result }
 {
+    let row = record_row(alloc, series, product)?;
     let change = Change::of(product.notification);
-    change_record(alloc, work, row, product, change, found)?;
+    change_record(alloc, work, &row, product, change, found)?;
     Ok(counted(effect, change, found.is_there()))
 }
 
-// Applies some of the products, from the first on: a run of new records, or one product. Gives how
-// many, and the counts with them.
+// Products that were applied at once.
+#[derive(Clone, Copy)]
+struct Step {
+    // How many.
+    count: usize,
+    // The counts with them.
+    effect: Effect,
+}
+
+// Applies some of the products, from the first on: a run of new records, and the product that ends
+// it, where that was looked up. Gives how many, and the counts with them.
 fn apply_some<S: Alter>(
     alloc: Global,
     work: &mut Work<'_, S>,
@@ -163,15 +173,17 @@ fn apply_some<S: Alter>(
     ensures does { Does S.Store (AppliesSome with_minimums series.now products.now effect)
         work.old work.new result }
 {
-    let product = &products[0];
-    let row = record_row(alloc, series, product)?;
-    let found = find_record(alloc, work, &row, product, with_minimums)?;
-    let is_new = brings_new(product, found.is_there());
-    if is_new {
-        return apply_run(alloc, work, series, products, effect);
-    }
-    let effect = apply_product(alloc, work, &row, product, found, effect)?;
-    Ok(Step { count: 1, effect })
+    let run = find_run(alloc, work, series, products, with_minimums)?;
+    let count = run.count;
+    let effect = apply_run(alloc, work, series, &products[..count], effect)?;
+    let Some(found) = run.found else {
+        return Ok(Step { count, effect });
+    };
+    let effect = apply_product(alloc, work, series, &products[count], found, effect)?;
+    Ok(Step {
+        count: count + 1,
+        effect,
+    })
 }
 
 // Whether prices of the series may have minimums while these products are applied: one that is there

@@ -4,7 +4,7 @@ ghost use Rattle.std.specs.Prelude.{◌≡◌, ◌&&◌, IfOk};
 ghost use Rattle.catalogue_rules.specs.Records.{HasFewDetails};
 ghost use Rattle.desk_catalogue.specs.Achieves.{Does};
 ghost use Rattle.desk_catalogue.specs.Calls.{KeepsRows, FindsAs, HasPricesAs, HavePricesAs, IsEntryOf, HoldsSuppliesAs};
-ghost use Rattle.desk_catalogue.specs.ReadRows.{has_same_identifiers, has_same_supplies, is_there, TellsIdentifiers, TellsRecord};
+ghost use Rattle.desk_catalogue.specs.ReadRows.{has_same_identifiers, has_same_supplies, is_there, TellsIdentifiers};
 
 use crate::assemble::entry_of;
 use crate::build::{article_rows, offer_rows};
@@ -125,18 +125,7 @@ fn asks_for_supplies(product: &Product, same_identifiers: bool) -> bool {
     }
 }
 
-// Whether a record is there. A record has an identifier, so the rows of its identifiers tell it.
-pub(crate) fn has_record<S: Alter>(
-    work: &mut Work<'_, S>,
-    row: &RecordRow,
-) -> Result<bool, StoreFault>
-    ensures { Does S.Store (KeepsRows (TellsRecord row.now)) work.old work.new result }
-{
-    let articles = work.record_articles(row)?;
-    Ok(!articles.as_slice().is_empty())
-}
-
-// Whether the identifiers of a record are these, or `None` where it is not there.
+// Whether the identifiers of a record are these, or `None` where it is not there: a record has one.
 fn has_identifiers<S: Alter>(
     alloc: Global,
     work: &mut Work<'_, S>,

@@ -7,12 +7,12 @@ ghost use Rattle.catalogue_rules.specs.Plans.{total};
 ghost use Rattle.desk_catalogue.specs.Achieves.{Does};
 ghost use Rattle.desk_catalogue.specs.Calls.{ChangesRows, KeepsRows};
 ghost use Rattle.desk_catalogue.specs.EntryRows.{record_row};
-ghost use Rattle.desk_catalogue.specs.Runs.{brings_new, is_replaced, AppliesRun, AreNewIn, IsNewIn, IsStep};
+ghost use Rattle.desk_catalogue.specs.Runs.{brings_new, is_replaced, ended, AppliesRun, BeginsWith};
 ghost use Rattle.desk_catalogue.specs.WrittenRows.{product_articles, product_offers, product_prices, product_records, with_identifiers_of, with_products, with_supplies_of};
 ghost use Rattle.onix_records.specs.declared.parts.Product.{Product};
 
 use crate::build::{add_article_rows, add_offer_rows, add_price_rows};
-use crate::record_rows::has_record;
+use crate::record_rows::{FoundRecord, find_record};
 use crate::records::{put_offers_and_prices, put_records_and_articles};
 use catalogue_rules::change::Change;
 use desk_tables::articles::ArticleRow;
@@ -29,15 +29,6 @@ use std::alloc::Global;
 
 // The most products of a run: the more, the fewer statements, and the more looks for a reference.
 const LONGEST_RUN: usize = 64;
-
-/// Products that were applied at once.
-#[derive(Clone, Copy)]
-pub struct Step {
-    /// How many.
-    pub count: usize,
-    /// The counts with them.
-    pub effect: Effect,
-}
 
 /// The row of the record of a product.
 pub fn record_row(
@@ -66,8 +57,8 @@ fn is_replaced(product: &Product) -> bool
     }
 }
 
-/// Whether the product brings a whole record that is not there.
-pub fn brings_new(product: &Product, is_there: bool) -> bool
+// Whether the product brings a whole record that is not there.
+fn brings_new(product: &Product, is_there: bool) -> bool
     ensures { result ≡ brings_new product.now is_there }
 {
     is_replaced(product) && !is_there
@@ -82,45 +73,54 @@ fn has_reference(products: &[Product], reference: &Text) -> bool
         .any(|product| product.reference == *reference)
 }
 
-// Whether the product brings a record that the catalogue does not have.
-fn is_new<S: Alter>(
-    alloc: Global,
-    work: &mut Work<'_, S>,
-    series: &SeriesName,
-    product: &Product,
-) -> Result<bool, StoreFault>
-    ensures { Does S.Store (KeepsRows (IsNewIn series.now product.now)) work.old work.new result }
-{
-    let row = record_row(alloc, series, product)?;
-    let is_there = has_record(work, &row)?;
-    Ok(brings_new(product, is_there))
+/// The run of new records that begins some products.
+#[derive(Clone, Copy)]
+pub struct Run {
+    /// How many products it has.
+    pub count: usize,
+    /// What is there of the record of the product that ends it, where that was looked up.
+    pub found: Option<FoundRecord>,
 }
 
-// How many of the products, the first of which is one, are new records of other references each.
-fn count_new<S: Alter>(
+/// The run of new records, of other references each, that begins the products, and what is there of
+/// the product that ends it. A fault is one of the store, or out of memory; `Unusable` where a row
+/// cannot be read back.
+pub fn find_run<S: Alter>(
     alloc: Global,
     work: &mut Work<'_, S>,
     series: &SeriesName,
     products: &[Product],
-) -> Result<usize, StoreFault>
+    with_minimums: bool,
+) -> Result<Run, StoreFault>
     requires { 0 < length products.now }
-    ensures within { IfOk result (λ n. n ≤ length products.now) }
-    ensures some { IfOk result (λ n. 0 < n) }
-    ensures does { Does S.Store (KeepsRows (AreNewIn series.now products.now))
+    ensures within { IfOk result (λ run. run.count + ended run.found ≤ length products.now) }
+    ensures some { IfOk result (λ run. 0 < run.count + ended run.found) }
+    ensures does { Does S.Store (KeepsRows (BeginsWith with_minimums series.now products.now))
         work.old work.new result }
 {
     let most = products.len().min(LONGEST_RUN);
-    for i in 1..most {
+    for i in 0..most {
         let product = &products[i];
         if has_reference(&products[..i], &product.reference) {
-            return Ok(i);
+            return Ok(Run {
+                count: i,
+                found: None,
+            });
         }
-        let is_new = is_new(alloc, work, series, product)?;
+        let row = record_row(alloc, series, product)?;
+        let found = find_record(alloc, work, &row, product, with_minimums)?;
+        let is_new = brings_new(product, found.is_there());
         if !is_new {
-            return Ok(i);
+            return Ok(Run {
+                count: i,
+                found: Some(found),
+            });
         }
     }
-    Ok(most)
+    Ok(Run {
+        count: most,
+        found: None,
+    })
 }
 
 // A row that a product has in a table: a record, an identifier, an offer or a price.
@@ -271,27 +271,22 @@ fn write_products<S: Alter>(
     put_supplies_of(alloc, work, series, products)
 }
 
-/// Applies the run of new records that begins with the first product, which is one. A fault is one of
-/// the store, or out of memory; `Unusable` where the series is not there or a row cannot be read back.
+/// Applies products that are new records, of other references each, and gives the counts with them. A
+/// fault is one of the store, or out of memory; `Unusable` where the series is not there.
 pub fn apply_run<S: Alter>(
     alloc: Global,
     work: &mut Work<'_, S>,
     series: &SeriesName,
     products: &[Product],
     effect: Effect,
-) -> Result<Step, StoreFault>
-    requires some { 0 < length products.now }
-    requires few { total effect + length products.now < 2 ^ 32 }
-    ensures counted { IfOk result (λ step. IsStep (total effect) (length products.now) step) }
+) -> Result<Effect, StoreFault>
+    requires { total effect + length products.now < 2 ^ 32 }
+    ensures counted { IfOk result (λ e. total e ≡ total effect + length products.now) }
     ensures does { Does S.Store (AppliesRun series.now products.now effect)
         work.old work.new result }
 {
-    let count = count_new(alloc, work, series, products)?;
-    write_products(alloc, work, series, &products[..count])?;
+    write_products(alloc, work, series, products)?;
     let mut counts = effect;
-    counts.replaced += count as u32;
-    Ok(Step {
-        count,
-        effect: counts,
-    })
+    counts.replaced += products.len() as u32;
+    Ok(counts)
 }

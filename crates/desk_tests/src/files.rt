@@ -1,14 +1,14 @@
-//! Files that are opened for a call and closed behind it: a request to the desk in them, its way to
-//! version 2, calls of the tables, statements of the test's own. What a call is stands in the first line of
-//! its text, and what it gives is written to the output that is lent.
+//! Files that are opened for a call and closed behind it: a request to the desk in them, their way to version
+//! 2, calls of the tables, or statements of the test's own. What a call is stands in the first line of its text,
+//! and what it gives is written to the output that is lent.
 
 ghost use Rattle.std.specs.Prelude.{IsTrue};
 
 use crate::asking::{End, Taken, ask_store, end_of_fault, end_of_line};
 use crate::desks::{StoppedDesk, TestDesk};
 use crate::disks::{OPTIONS, TestFiles, copied, failing_files, stop_machine};
+use crate::table_calls::told;
 use desk_store::{Creation, DeskStore, OpenFault, OpenOptions, migrate_files_with};
-use desk_table_tests::transcripts::told;
 use desk_tables::rows::fault::fault_of;
 use desk_tables::tables::Tables;
 use onix_message::StoreFault;
@@ -30,9 +30,8 @@ pub enum Call<'a> {
     Ask(&'a Precedence, &'a str),
     /// To version 2, where it is not of that already.
     Migrate,
-    /// A transcript of the tables' calls, in one transaction, and whether that ends with `commit` or is let
-    /// go.
-    Tables(&'a str, bool),
+    /// A call of the tables, by its name.
+    Tables(&'a str),
     /// Statements.
     Execute(&'a str),
 }
@@ -42,17 +41,10 @@ fn call_of<'a>(rules: &'a Precedence, text: &'a str) -> Call<'a> {
     let (first, rest) = text.split_once('\n').unwrap_or((text, ""));
     match first {
         "migrate" => Call::Migrate,
-        "tables" => Call::Tables(rest, false),
-        "commit" => Call::Tables(rest, true),
+        "count" | "move" => Call::Tables(first),
         "execute" => Call::Execute(rest),
         _ => Call::Ask(rules, text),
     }
-}
-
-/// What a call is made of.
-pub enum Opened<S: Alter> {
-    Desk(DeskStore<S>),
-    Connection(Connection<S>),
 }
 
 // Where the tables are of another version, that is what the call gives.
@@ -81,15 +73,14 @@ fn execute<S: Alter>(connection: &mut Connection<S>, statements: &str) -> End {
 }
 
 fn act_on<S: Alter + Drop>(
-    alloc: Global,
     mut connection: Connection<S>,
     call: Call<'_>,
     output: &mut Vec<u8>,
 ) -> (Connection<S>, End) {
     match call {
-        Call::Tables(transcript, is_kept) => {
+        Call::Tables(name) => {
             let mut tables = Tables::new(connection);
-            let end = match told(alloc, &mut tables, transcript, is_kept) {
+            let end = match told(&mut tables, name) {
                 Ok(line) => end_of_line(line, output),
                 Err(fault) => end_of_fault(fault),
             };
@@ -103,74 +94,58 @@ fn act_on<S: Alter + Drop>(
     }
 }
 
-fn act<S: Alter + Drop>(
+// These stand alone: a function that calls what is generic over a store with that of files is dear to prove.
+
+/// Asks a desk in files.
+pub fn ask_in_files<D: Disk + Drop>(
     alloc: Global,
-    opened: Opened<S>,
+    desk: &mut DeskStore<FileStore<D>>,
+    rules: &Precedence,
+    request: &str,
+    output: &mut Vec<u8>,
+) -> End {
+    ask_store(alloc, desk, rules, request, output)
+}
+
+fn act_in_files<D: Disk + Drop>(
+    connection: Connection<FileStore<D>>,
     call: Call<'_>,
     output: &mut Vec<u8>,
-) -> (Opened<S>, End) {
-    match opened {
-        Opened::Desk(mut desk) => {
-            let end = match call {
-                Call::Ask(rules, request) => ask_store(alloc, &mut desk, rules, request, output),
-                _ => End::Other,
-            };
-            (Opened::Desk(desk), end)
-        }
-        Opened::Connection(connection) => {
-            let (connection, end) = act_on(alloc, connection, call, output);
-            (Opened::Connection(connection), end)
-        }
+) -> (Connection<FileStore<D>>, End) {
+    act_on(connection, call, output)
+}
+
+/// Closes a desk, whether or not its log can be copied, and says whether it could.
+pub fn close<D: Disk + Drop>(desk: DeskStore<FileStore<D>>) -> (Files<D>, bool) {
+    match desk.close_files() {
+        Ok(files) => (files, true),
+        Err((_, store)) => (store.close(), false),
     }
 }
 
-/// Makes a call of files that are opened for it. It stands alone: a function that calls what is generic over
-/// a store with that of files is dear to prove.
-pub fn act_on_files<D: Disk + Drop>(
-    alloc: Global,
-    opened: Opened<FileStore<D>>,
-    call: Call<'_>,
-    output: &mut Vec<u8>,
-) -> (Opened<FileStore<D>>, End) {
-    act(alloc, opened, call, output)
-}
-
-/// Closes files, whether or not their log can be copied, and says whether it could.
-pub fn close<D: Disk + Drop>(opened: Opened<FileStore<D>>) -> (Files<D>, bool) {
-    match opened {
-        Opened::Desk(desk) => match desk.close_files() {
-            Ok(files) => (files, true),
-            Err((_, store)) => (store.close(), false),
-        },
-        Opened::Connection(connection) => match connection.close_files() {
-            Ok(files) => (files, true),
-            Err((_, store)) => (store.close(), false),
-        },
+fn close_connection<D: Disk + Drop>(connection: Connection<FileStore<D>>) -> Files<D> {
+    match connection.close_files() {
+        Ok(files) => files,
+        Err((_, store)) => store.close(),
     }
-}
-
-fn act_and_close<D: Disk + Drop>(
-    alloc: Global,
-    opened: Opened<FileStore<D>>,
-    call: Call<'_>,
-    output: &mut Vec<u8>,
-) -> (Files<D>, End) {
-    let (opened, end) = act_on_files(alloc, opened, call, output);
-    let (files, _) = close(opened);
-    (files, end)
 }
 
 fn ask<D: Disk + Drop>(
     alloc: Global,
     files: Files<D>,
-    call: Call<'_>,
+    rules: &Precedence,
+    request: &str,
     output: &mut Vec<u8>,
 ) -> (Files<D>, End)
     requires log { IsTrue (D.Disk.is_usable files.log) }
     requires db { IsTrue (D.Disk.is_usable files.db) }
 {
     match DeskStore::open_files_with(alloc, files, OPENING) {
-        Ok(desk) => act_and_close(alloc, Opened::Desk(desk), call, output),
+        Ok(mut desk) => {
+            let end = ask_in_files(alloc, &mut desk, rules, request, output);
+            let (files, _) = close(desk);
+            (files, end)
+        }
         Err((fault, left)) => (left.into_files(), end_of_opening(fault, output)),
     }
 }
@@ -185,7 +160,10 @@ fn connect<D: Disk + Drop>(
     requires db { IsTrue (D.Disk.is_usable files.db) }
 {
     match Connection::open_files(alloc, files, OPTIONS) {
-        Ok(connection) => act_and_close(alloc, Opened::Connection(connection), call, output),
+        Ok(connection) => {
+            let (connection, end) = act_in_files(connection, call, output);
+            (close_connection(connection), end)
+        }
         Err((error, left)) => (left.into_files(), end_of_fault(fault_of(error))),
     }
 }
@@ -214,9 +192,9 @@ fn opened_for<D: Disk + Drop>(
         return (files, End::Lost);
     }
     match call {
-        Call::Ask(..) => ask(alloc, files, call, output),
+        Call::Ask(rules, request) => ask(alloc, files, rules, request, output),
         Call::Migrate => migrate(alloc, files, output),
-        Call::Tables(..) | Call::Execute(_) => connect(alloc, files, call, output),
+        Call::Tables(_) | Call::Execute(_) => connect(alloc, files, call, output),
     }
 }
 

@@ -7,7 +7,7 @@ mod asking;
 #[cfg(test)]
 mod cases;
 #[cfg(test)]
-mod contents;
+mod catalogues;
 #[cfg(test)]
 mod desks;
 #[cfg(test)]
@@ -23,4 +23,4 @@ mod stores;
 #[cfg(test)]
 mod streams;
 #[cfg(test)]
-mod unasked;
+mod table_calls;

@@ -8,11 +8,9 @@
 
 pub mod drain;
 pub mod exchanges;
-pub mod order;
 pub mod questions;
-pub mod refused;
 pub mod steps;
-pub mod three;
+pub mod tables;
 pub mod versions;
 
 use crate::asking::{End, Taken, expect_asked};

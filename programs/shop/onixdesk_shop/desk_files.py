@@ -70,7 +70,6 @@ class DeskFile:
 
     def __init__(self, machine: Machine, program: Path, database: Path, rules: Path | None = None) -> None:
         self.machine = machine
-        self.database = database
         table: list[str | Path] = ["--rules", rules] if rules else []
         self.words: list[str | Path] = [program, *table, "--db", database]
 

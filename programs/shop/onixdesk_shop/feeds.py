@@ -10,8 +10,8 @@ from onixdesk_shop.feed_stream import Damaged, pieces_of
 from onixdesk_shop.lines import cut, shown
 from onixdesk_shop.machine import Machine
 
-# How long a conversion, a reading for people and a check may take.
-CONVERSION_SECONDS, READING_SECONDS, CHECK_SECONDS = 1800, 600, 60
+# How long a reading for people may take.
+READING_SECONDS = 600
 
 PROGRAM_SAYS = "onixdesk: "
 ON_INPUT = re.compile(r"onixdesk: -(?::([0-9]+):([0-9]+))?: ")
@@ -79,7 +79,7 @@ def read_by(machine: Machine, module: str, source: Path) -> bytes:
 
 
 def convert(
-    machine: Machine, program: Path, source: Path, words: list[str], terms: bytes | None, work: Path
+    machine: Machine, program: Path, source: Path, words: list[str], terms: bytes | None, work: Path, limit: int = 1800
 ) -> tuple[list[bytes], Said]:
     """The messages of a feed, in order of number, and what the converter said. Raises Refusal if it has none that the
     desk would take, BadCall if the words or the table of terms are wrong. Empties the folder `work` first."""
@@ -90,7 +90,7 @@ def convert(
         machine.write_whole(work / "terms.toml", terms)
         call[2:2] = ["--terms", work / "terms.toml"]
     try:
-        ended = machine.run(call, (DONE, FAILED, BAD_CALL), pieces_of(source), CONVERSION_SECONDS)
+        ended = machine.run(call, (DONE, FAILED, BAD_CALL), pieces_of(source), limit)
     except Damaged as damaged:
         raise Refusal(str(damaged)) from None
     said = said_in(ended.errors)
@@ -103,9 +103,11 @@ def convert(
     return messages, said
 
 
-def check(machine: Machine, program: Path, message: bytes) -> str:
+def check(machine: Machine, program: Path, message: bytes, limit: int) -> str:
     """Why the desk would refuse a message, or an empty text."""
-    ended = machine.run([program, "check", "-"], (DONE, FAILED), message, seconds=CHECK_SECONDS)
+    if message.decode(errors="replace").encode() != message:
+        return "it is not UTF-8"
+    ended = machine.run([program, "check", "-"], (DONE, FAILED), message, seconds=limit)
     if ended.status == DONE:
         return ""
     lines = ended.errors.decode("utf-8", "backslashreplace").splitlines()

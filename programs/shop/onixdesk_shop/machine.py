@@ -44,7 +44,7 @@ class Entry(NamedTuple):
 class Machine:
     def __init__(self, program: str) -> None:
         self.program = program
-        self.is_output_broken = False
+        self.is_output_broken = sys.stdout is None
 
     def now(self) -> float:
         return time.time()
@@ -182,8 +182,11 @@ class Machine:
 
     def connect(self, path: Path, schema: str = "") -> sqlite3.Connection:
         """A database that syncs each transaction when it commits; it is made by the schema if it does not exist."""
-        connection = sqlite3.connect(path, isolation_level=None)
-        connection.execute("PRAGMA journal_mode=WAL")
+        try:
+            connection = sqlite3.connect(path, isolation_level=None)
+            connection.execute("PRAGMA journal_mode=WAL")
+        except sqlite3.DatabaseError as error:
+            raise Fault(f"{path}: {error}") from None
         connection.execute("PRAGMA synchronous=FULL")
         connection.execute("PRAGMA foreign_keys=ON")
         if schema and not connection.execute("SELECT count(*) FROM sqlite_schema").fetchone()[0]:
@@ -228,9 +231,11 @@ class Machine:
         return False
 
     def backup(self, database: Path, target: Path) -> None:
-        """Copies a database that others may write to meanwhile."""
+        """Copies a database that others may write to meanwhile; DatabaseError if the copy is not sound."""
         with contextlib.closing(sqlite3.connect(database)) as old, contextlib.closing(sqlite3.connect(target)) as new:
             old.backup(new)
+            if (found := new.execute("PRAGMA integrity_check").fetchone()[0]) != "ok":
+                raise sqlite3.DatabaseError(found)
 
     # The desk
 
@@ -241,10 +246,7 @@ class Machine:
             client.connect(str(address))
             client.sendall(text)
             client.shutdown(socket.SHUT_WR)
-            pieces = []
-            while piece := client.recv(PIECE):
-                pieces.append(piece)
-        return b"".join(pieces)
+            return b"".join(iter(lambda: client.recv(PIECE), b""))
 
     # Children
 

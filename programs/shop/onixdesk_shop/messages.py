@@ -92,14 +92,11 @@ def is_end(record: list[str]) -> bool:
     return record[0] == "EndMessage"
 
 
-BELOW = "Product", "ProductSupply", "SupplyDetail", "Price"
-
-
 def is_message(message: bytes) -> bool:
     """Whether well-formed records are one message, and nothing else."""
     names = [record[0] for record in records_of(message)]
     is_one = len(names) > 1 and names[0] == "Message" and names[-1] == "EndMessage"
-    return is_one and all(name in BELOW for name in names[1:-1])
+    return is_one and {*names[1:-1]} <= {"Product", "ProductSupply", "SupplyDetail", "Price"}
 
 
 def text_of(records: Records) -> str:

@@ -35,8 +35,7 @@ def shop_of(given: Any) -> Shop:
     quantities = given.get("quantities") or [1]
     if not all(type(value) is int and 1 <= value <= 999_999 for value in quantities):
         raise ValueError("quantities is not a list of numbers of copies")
-    series = given.get("series", [])
-    wholesalers = {str(item["name"]): str(item.get("words", item["name"])) for item in series}
+    wholesalers = {str(item["name"]): str(item.get("words", item["name"])) for item in given.get("series", [])}
     return Shop(**texts, quantities=quantities, wholesalers=wholesalers, given=given)
 
 

@@ -5,6 +5,7 @@ import signal
 import stat
 import subprocess
 from collections.abc import Iterator
+from functools import partial
 from pathlib import Path
 
 from tests.program.room import Room
@@ -47,13 +48,10 @@ def corrected(room: Room, *words: str, status: int = 0) -> tuple[int, list[str]]
         room.path(name).unlink(missing_ok=True)
     environment = {**os.environ, "PATH": f"{folder}:{os.environ['PATH']}", "ROOM": str(room.folder)}
     script: list[str | Path] = [ROOT / "programs/desk-restore/correct.sh", *words]
-    done = subprocess.run(script, env=environment, capture_output=True, preexec_fn=default_signals)
+    hears = partial(signal.signal, signal.SIGHUP, signal.SIG_DFL)
+    done = subprocess.run(script, env=environment, capture_output=True, preexec_fn=hears)
     calls = room.path("calls")
     return done.returncode, calls.read_text().splitlines() if calls.exists() else []
-
-
-def default_signals() -> None:
-    signal.signal(signal.SIGHUP, signal.SIG_DFL)
 
 
 def a_message_is_taken_out(room: Room) -> Iterator[Outcome]:

@@ -108,11 +108,7 @@ class RealMachine(Machine):
 
 
 def renewed(room: Room, machine: Machine, **more: object) -> int:
-    words = {
-        "db": room.path(DATABASE),
-        "inboxes": room.path("none"),
-        "program": room.program,
-    }
+    words = {"db": room.path(DATABASE), "program": room.program}
     options = command_line().parse_args([f"--{name}={value}" for name, value in (words | more).items()] + ["--yes"])
     return status_of(machine, lambda each: renew(each, options))
 
@@ -181,9 +177,7 @@ def shop_in(room: Room, name: str) -> Shop:
 
 def run(shop: Shop, machine: ShopMachine | None = None) -> int:
     machine = machine or shop.machine()
-    options = command_line().parse_args(
-        [f"--{name}={place}" for name, place in shop.options.items() if name != "copies"]
-    )
+    options = command_line().parse_args([f"--{name}={place}" for name, place in shop.options.items()])
     try:
         return status_of(machine, lambda each: renew(each, options))
     finally:

@@ -24,8 +24,8 @@ from tests.shop.fake_machine import Killed
 from tests.shop.fake_program import SENDER, feed_of, isbn_of
 from tests.shop.inboxes import SERIES
 
-OPTIONS: dict[str, Any] = dict.fromkeys(("yes", "gaps", "before_correction"), False)
-OPTIONS |= {"text": None, "refuse": None, "said": "it was wrong"}
+OPTIONS: dict[str, Any] = dict.fromkeys(("yes", "gaps", "before_correction", "text", "refuse"))
+OPTIONS["said"] = "it was wrong"
 
 # Every so many'th call of a restore is tried; ONIXDESK_STRIDE=1 tries all.
 STRIDE = int(os.environ.get("ONIXDESK_STRIDE", "9"))
@@ -97,6 +97,9 @@ def refused_before(room: Room) -> Iterator[Outcome]:
     yield Outcome("without a yes", (run(shop, copy, machine), has(shop), shop.units), (1, [1, 2, 3, 4], []))
     line = next(line for line in shop.written.splitlines() if line.endswith("; 4.xml"))
     mark = line.split()[2]
+    machine.written = ""
+    run(shop, copy, machine, refuse=[mark, SERIES])
+    yield Outcome("what is refused after the yes", [f"; {day}.xml" in shop.written for day in (3, 4)], [True, False])
     shop.inbox.work(lambda inbox: decide.decide(inbox, "refuse", mark))
     yield Outcome("the others", (run(shop, copy), price(shop), shop.inbox.states()["4.xml"]), (0, "13.000", "rejected"))
     shop.inbox.run()
@@ -184,15 +187,11 @@ def agreements_and_waivers(room: Room) -> Iterator[Outcome]:
     lines = [line for line in shop.lines if line.startswith(agreement)]
     yield Outcome("is told", (len(lines), shop.written.startswith(agreement)), (1, True))
     shop.inbox.run()
-    yield Outcome("its files wait", (has_series(shop.inbox.desk), set(shop.inbox.states().values())), ([], {"applied"}))
     shop.inbox.desk = shop.inbox.desk or FakeDesk()
+    yield Outcome("its files wait", ([*shop.inbox.desk.series], {*shop.inbox.states().values()}), ([], {"applied"}))
     shop.inbox.desk.batch(f"{agreement}\n")
     shop.inbox.run()
     yield Outcome("once it is agreed", has(shop), [1, 3])
-
-
-def has_series(desk: FakeDesk | None) -> list[str]:
-    return [*desk.series] if desk else []
 
 
 def copies_that_are_refused(room: Room) -> Iterator[Outcome]:
@@ -273,8 +272,10 @@ def corrections(room: Room) -> Iterator[Outcome]:
     yield Outcome("the status", run(shop, copy, text=text), 0)
     yield Outcome("the prices", (price(shop), price(shop, "R2")), ("99.000", "15.000"))
     yield Outcome("what was waived meanwhile", (has(shop), shop.inbox.series.had[6]), ([1, 2, 3, 4, 5, 6], WAIVED))
+    made = shop.database.with_name("corrections")
+    made.write_text(f"{made.read_text()} later: and more\n")
     yield Outcome("a copy from before", run(shop, night.rename(shop.copies / "night")), 1)
-    yield Outcome("says what was made", shop.lines[-1].endswith(": it was wrong"), True)
+    yield Outcome("says all that was made", shop.lines[-1].endswith(": it was wrong;  later: and more"), True)
     text.write_text(text.read_text().partition("\n")[2])
     before = shop.database.read_bytes()
     yield Outcome("a text that the desk refuses", (run(shop, copy, text=text) > 0, shop.started), (True, {*UNITS}))

@@ -32,7 +32,7 @@ FOLDERS = [
     "var/tmp",
 ]
 
-OF_DESK = f"--db ROOM/{DESK} --inboxes ROOM/var/lib/onixdesk-inbox --settings ROOM/etc/onixdesk/inbox"
+OF_DESK = f"--db ROOM/{DESK} --settings ROOM/etc/onixdesk/inbox"
 
 # Stand-ins for the machine's commands, and the shop's programs with the room's places. The desk runs beside its parent;
 # its process number is there while it runs. Starting an inbox's timer is one run of the inbox.

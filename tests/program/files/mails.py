@@ -82,12 +82,8 @@ def what_is_mailed(room: Room) -> Iterator[Outcome]:
     wanted = [*refused[:100], "and 52 more"]
     yield Outcome("mails: what is in it", bodies(room), (wanted, wanted))
     called = room.path("calls").read_text().splitlines()
-    names = [
-        "onixdesk", "onixdesk-inbox@*", "onixdesk-fetch@*", "onixdesk-copy", "onixdesk-follow",
-        "onixdesk-prices",
-    ]  # fmt: skip
-    units = [f"--unit={name}.service" for name in names]
-    yield Outcome("mails: of which units", [word for word in called[-1].split() if word.startswith("--unit")], units)
+    units = {f"--unit={path.name.replace('@', '@*')}" for path in ROOT.glob("programs/*/*.service")}
+    yield Outcome("mails: not of which units", units - {*called[-1].split()}, {"--unit=onixdesk-mail.service"})
     yield Outcome("mails: at first of an hour", ["--since=-1h" in call for call in called], [True] * 2 + [False] * 2)
 
 

@@ -1,5 +1,4 @@
-"""Files whose sender and addressee belong to another series of the desk, or to none, until the agreement is corrected.
-"""
+"""Files whose sender and addressee belong to another series, or to none, until the agreement is corrected."""
 
 from collections.abc import Iterator
 from contextlib import suppress

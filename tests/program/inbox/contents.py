@@ -78,6 +78,7 @@ def of_the_program(room: Room) -> Iterator[Outcome]:
     inbox = FakeInbox(room.folder, room.program)
     records = message_of(1, [product_of("R1", "13.99", None)])
     inbox.send("other.csv", records.replace(SENDER[1], "4012345000010"))
+    inbox.send("latin.csv", records.replace("North", "Nörd").encode("latin-1"))
     inbox.send("two.csv", records * 2)
     inbox.send("question.csv", records + "AskGaps,north\n")
     inbox.send("good.csv", records)

@@ -14,6 +14,7 @@ from collections.abc import Iterator
 from pathlib import Path
 from typing import Any
 
+from onixdesk_shop.inbox.context import DAY, HOUR
 from onixdesk_shop.inbox.intake import name_of
 from onixdesk_shop.machine import Machine
 from tests.program.documents.examples import blocks
@@ -25,9 +26,6 @@ from tools.root import ROOT
 SCRIPT = ROOT / "programs/onixdesk-fetch/fetch.sh"
 
 NEEDS = ["sshd", "vsftpd", "rclone", "openssl"]
-
-HOUR = 3600
-DAY = 24 * HOUR
 
 
 class Fetch:

@@ -10,6 +10,7 @@ from unittest.mock import patch
 from onixdesk_shop.faults import BadEnd
 from onixdesk_shop.inbox import decide, keeping, report, show
 from onixdesk_shop.inbox.command_line import numbers_word
+from onixdesk_shop.inbox.context import DAY
 from onixdesk_shop.settings import NEXT
 from tests.program.room import Room
 from tests.running import Outcome
@@ -17,8 +18,6 @@ from tests.shop.fake_desk import WAIVED
 from tests.shop.fake_program import SENDER, feed_of, isbn_of, message_of, product_of
 from tests.shop.fake_machine import FakeMachine, Killed
 from tests.shop.inboxes import SERIES, START, FakeInbox
-
-DAY = 86_400
 
 
 def inbox_in(room: Room, name: str, **settings: Any) -> FakeInbox:
@@ -232,6 +231,12 @@ def begins_again(room: Room) -> Iterator[Outcome]:
     inbox.send("newer.xml", feed_of(1, {"R1": "8.00"}))
     line = next(line for line in inbox.run() if line.endswith("newer.xml"))
     yield Outcome("once more", line.partition(";")[0], "if it begins again at 1: WORDS=--number-offset 5")
+    inbox = inbox_in(room, "waived")
+    inbox.take("2.xml", feed_of(2, {"R1": "2.00"}))
+    inbox.work(lambda each: decide.waive(each, [1]))
+    inbox.run()
+    (line,) = inbox.take("new.xml", feed_of(1, {"R1": "9.00"}))
+    yield Outcome("its number is waived", line.partition(";")[0], "if it begins again at 1: WORDS=--number-offset 2")
 
 
 def said_of_products(room: Room) -> Iterator[Outcome]:
@@ -422,9 +427,7 @@ def unforeseen(room: Room) -> Iterator[Outcome]:
     """An unexpected failure on a file stops the series with a line, never passes, and a person has it tried again."""
     for name, target, error in (
         ("mistake", "onixdesk_shop.inbox.quarantine.look_at", ValueError("no digit")),
-        ("child", "onixdesk_shop.inbox.quarantine.look_at", BadEnd("onixdesk was killed by signal 9")),
         ("conversion", "tests.shop.fake_program.convert", BadEnd("onixdesk was killed by signal 9")),
-        ("check", "tests.shop.fake_program.check", BadEnd("onixdesk takes too long")),
     ):
         inbox = inbox_in(room, name)
         inbox.take("1.xml", feed_of(1, {"R1": "1.00"}))
@@ -436,3 +439,17 @@ def unforeseen(room: Room) -> Iterator[Outcome]:
         inbox.decide("let-in", "2.xml")
         inbox.run()
         yield Outcome(f"{name}: let in", price_of(inbox, "R1"), "2.000")
+
+
+def slow(room: Room) -> Iterator[Outcome]:
+    """A conversion and a check have a minute, and half an hour once a person let the file in."""
+    inbox = inbox_in(room, "slow")
+    inbox.send("1.xml", feed_of(1, {"R1": "1.00"}))
+    for takes, wanted in (61, "quarantined"), (1801, "quarantined"), (1800, "applied"):
+        machine = inbox.machine()
+        machine.program_seconds = takes
+        (line,) = inbox.run(machine)
+        is_told = "quarantined: it cannot be judged: onixdesk takes too long" in line
+        yield Outcome(f"{takes} seconds", (inbox.states(), is_told), ({"1.xml": wanted}, wanted == "quarantined"))
+        if is_told:
+            inbox.decide("let-in", "1.xml")

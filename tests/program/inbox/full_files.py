@@ -47,6 +47,8 @@ def deleted(room: Room) -> Iterator[Outcome]:
     yield Outcome("a newer one takes its place", (inbox.states()["b.xml"], len(named(inbox))), ("replaced", 55))
     lines = inbox.take("again.xml", feed_of(None, books(*range(40)), sent="b"))
     yield Outcome("its bytes again are told", (len(lines), inbox.states()["again.xml"]), (1, "replaced"))
+    send_all(inbox, d=books(*range(6, 49)) | dict.fromkeys(books(*range(6)), "-"))
+    yield Outcome("with those that it deletes itself", inbox.states()["d.xml"], "quarantined")
     inbox = inbox_in(room, "let in", number=NEXT, full=1, stop=False)
     send_all(inbox, a=books(*range(60)), b=books(*range(40)))
     yield Outcome("too many, whatever STOP says", inbox.states()["b.xml"], "quarantined")

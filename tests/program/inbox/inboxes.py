@@ -3,8 +3,7 @@
 from pathlib import Path
 
 from tests.program.databases import DATABASE
-from tests.program.room import WITHIN, Room
-from tools.words import Word
+from tests.program.room import Room
 
 WORDS = ["--db", DATABASE]
 
@@ -14,11 +13,6 @@ def of_series(number: int, series: str = "north", **counts: int) -> str:
     names = ["deleted", "ignored"], ["replaced"], ["unknown", "updated"]
     before, replaced, behind = (",".join(f'"{name}":{counts.get(name, 0)}' for name in each) for each in names)
     return f'200 {{"answer":"applied",{before},"number":{number},{replaced},"series":"{series}",{behind}}}'
-
-
-def within(text: str, *words: Word) -> list[Word]:
-    """The words that run a text of Python, which may import what ships and run a program of it."""
-    return [*WITHIN, text, *words]
 
 
 def script(room: Room, name: str, text: str) -> Path:

@@ -7,13 +7,12 @@ from collections.abc import Iterator
 
 from onixdesk_shop.inbox import decide
 from onixdesk_shop.inbox.command_line import numbers_word
+from onixdesk_shop.inbox.context import DAY, HOUR
 from tests.program.inbox.files import inbox_in
 from tests.program.room import Room
 from tests.running import Outcome
 from tests.shop.fake_desk import WAIVED
 from tests.shop.fake_program import feed_of
-
-HOUR, DAY = 3_600, 86_400
 
 # Names from others that mean something to a shell, to a journal or to a mail.
 NAMES = [

@@ -7,8 +7,7 @@ from typing import Any
 
 from onixdesk_shop.faults import BadEnd
 from onixdesk_shop.machine import Machine
-from tests.program.inbox.inboxes import within
-from tests.program.room import Ran, Room
+from tests.program.room import WITHIN, Ran, Room
 from tests.running import Outcome
 from tools.words import Word
 
@@ -69,7 +68,7 @@ sys.exit(call(parser, work))
 
 def program(lines: str, goes_on: bool = False) -> list[Word]:
     """The words of a program that does this, and says so."""
-    return within(WORK.format(lines=lines, goes_on=goes_on))
+    return [*WITHIN, WORK.format(lines=lines, goes_on=goes_on)]
 
 
 def broken_output(room: Room) -> Iterator[Outcome]:

@@ -84,6 +84,18 @@ def for_whom_the_last_feed_was(room: Room) -> Iterator[Outcome]:
             yield Outcome(f"{name}, {case}", state, "quarantined")
 
 
+def each_kind(room: Room) -> Iterator[Outcome]:
+    """Each country of the file is compared, and each quantity of desk.json."""
+    books = [replace(book, country=("GB", "US", "AU")[book.number % 3]) for book in BOOKS]
+    inbox, _ = behind_a_first_feed(room, "three countries", books, replace(SHOP, quantities=[1, 5, 10, 50]))
+    inbox.decide("let-in", "second.xml")
+    prices = {"GB": "10.00", "US": "10.00", "AU": "1000.00"}
+    inbox.take("third.xml", feed(3, [replace(book, price=prices[book.country]) for book in books]))
+    yield Outcome("a hundredfold in the third", inbox.states()["third.xml"], "quarantined")
+    found = inbox.work(lambda each: [kind.quantity for kind in comparing.kinds_of(each, {})])
+    yield Outcome("quantities", sorted({*found}), [1, 5, 10, 50])
+
+
 def few_deletions_of_many(room: Room) -> Iterator[Outcome]:
     inbox = FakeInbox(room.folder, room.program)
     books = [Book(number) for number in range(300)]

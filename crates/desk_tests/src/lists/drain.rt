@@ -62,27 +62,3 @@ applied,north,1,replaced=0,updated=0,deleted=0,unknown=0,ignored=0
 -- after
 gaps,north,first=1,next=42,greatest=41,held=0,missing=0
 ";
-
-/// The same with a report on the rows of the tables: as they are before it, or after it.
-pub const DRAINED_ROWS: &str = "
-== rows
-tables
-series_rows: north 4012345000009 1;
-gap_rows: 2; 3; 4; 5; 6; 7; 8; 9; 10; 11; 12; 13; 14; 15; 16; 17; 18; 19; 20; 21; 22; 23; 24; 25; 26; 27; 28; 29; 30; 31; 32; 33; 34; 35; 36; 37; 38; 39; 40; 41;
-next_held 2 41: ''
-applied_at 1 41: none
-or
-series_rows: north 4012345000009 42;
-gap_rows:
-applied_at 1 41: '' 0 0 0 0 0
--- wanted
-as told
-
-== the first
-Message,1,06,4012345000009,06,5012345678900,1,,,,
-EndMessage,1
--- wanted
-applied,north,1,replaced=0,updated=0,deleted=0,unknown=0,ignored=0
--- after
-as told otherwise
-";

@@ -1,12 +1,10 @@
 //! Files of version 1, by statements that do not come from `desk_tables`, in which two messages were applied,
 //! one waits, and so does a waiver, until they are migrated; then the desk in them goes on.
 
-/// The files of version 1. The report is an empty transcript.
+/// The files of version 1. No desk is opened in them for a report.
 pub const FIRST_FILES: &str = "
 == first
-tables
 -- wanted
-as told
 
 == files of version 1
 execute
@@ -43,39 +41,33 @@ INSERT INTO held VALUES ('north', 4, '');
 INSERT INTO held VALUES ('north', 6, 'waived');
 COMMIT;
 -- wanted
--- after
-as told
 ";
 
-/// Their way to version 2, with a report on their rows: as they are before it, or after it.
+/// Their way to version 2, with a report on gaps and the catalogue, which files of version 1 do not give.
 pub const MIGRATION: &str = "
 == migration
-tables
-version: 1
-series_rows: north 4012345000009 3;
-gap_rows: 4; 6;
-next_held 4: ''
-next_held 6: waived
-article_rows: R1 1 15; R2 1 15;
-offer_rows: R1 1; R2 1;
-or
-version: 2
-series_rows: north 4012345000009 3;
-gap_rows: 4; 6;
-next_held 4: ''
-next_held 6: waived
-article_rows: R1 1 15; R2 1 15;
-offer_rows: R1 1; R2 1;
-price_rows: R1 1 1 1 1.00; R2 1 1 1 2.00;
+AskGaps,north
+AskCatalogue,north
 -- wanted
-as told
+version 1
 
 == migration
 migrate
 -- wanted
 version 2
 -- after
-as told otherwise
+gaps,north,first=1,next=3,greatest=6,held=2,missing=2
+missing,3,3
+missing,5,5
+catalogue,north,2
+record,R1,15,9781234567897
+ProductSupply,GB IE,,
+SupplyDetail,04,06,4012345000009,North Books,21,
+Price,02,1.000,GBP,,WORLD,,,
+record,R2,15,9781234567897
+ProductSupply,GB IE,,
+SupplyDetail,04,06,4012345000009,North Books,21,
+Price,02,2.000,GBP,,WORLD,,,
 ";
 
 /// What the desk is asked then. Each request has the same answers when it is made again.

@@ -1,17 +1,15 @@
-//! The lists of requests, of desks of all kinds, and the calls of the tables over files. `tests/refused-memory`
-//! refuses each request for memory of these tests in turn.
+//! The lists of requests, of desks of all kinds, and the calls that are made of files alone.
+//! `tests/refused-memory` refuses each request for memory of these tests in turn.
 
 use crate::cases::{expect, made};
 use crate::desks::{TestDesk, opened};
 use crate::files::FileDesk;
-use crate::lists::drain::{DRAIN, DRAINED_ROWS, forty};
+use crate::lists::drain::{DRAIN, forty};
 use crate::lists::exchanges::EXCHANGES;
 use crate::lists::expect_list;
-use crate::lists::order::ORDER;
 use crate::lists::questions::QUESTIONS;
-use crate::lists::refused::REFUSED;
 use crate::lists::steps::STEPS;
-use crate::lists::three::THREE;
+use crate::lists::tables::{DRAINED_ROWS, MOVED_ROWS};
 use crate::lists::versions::{FIRST_FILES, MIGRATION};
 use crate::refusals::{Refusals, are_chosen};
 use desk_memory::MemoryDesk;
@@ -71,21 +69,10 @@ fn ask_behind_forty<D: TestDesk + Drop, R: Abort + Env>(
 // Asks new desks of a kind the lists that are chosen.
 fn ask_lists<D: TestDesk + Drop, R: Abort + Env>(alloc: Global, rt: &R) {
     let steps = ask_list::<D, R>(alloc, rt, "steps", STEPS);
-    let three = ask_list::<D, R>(alloc, rt, "three", THREE);
     let questions = ask_list::<D, R>(alloc, rt, "questions", QUESTIONS);
     let exchanges = ask_list::<D, R>(alloc, rt, "exchanges", EXCHANGES);
     let drain = ask_behind_forty::<D, R>(alloc, rt, "drain", DRAIN);
-    let is_one = steps | three | questions | exchanges | drain;
-    expect(rt, is_one, "no cases of this name");
-}
-
-// The lists of calls of the tables, of desks in files.
-fn make_calls<D: TestDesk + Drop, R: Abort + Env>(alloc: Global, rt: &R) {
-    let refused = ask_list::<D, R>(alloc, rt, "refused", REFUSED);
-    let migration = ask_behind::<D, R>(alloc, rt, FIRST_FILES, "migration", MIGRATION);
-    let rows = ask_behind_forty::<D, R>(alloc, rt, "rows", DRAINED_ROWS);
-    let order = ask_list::<D, R>(alloc, rt, "order", ORDER);
-    let is_one = refused | migration | rows | order;
+    let is_one = steps | questions | exchanges | drain;
     expect(rt, is_one, "no cases of this name");
 }
 
@@ -102,6 +89,15 @@ fn tables_in_memory(rt: HostRuntime) {
 #[test]
 fn desk_in_files(rt: HostRuntime) {
     ask_lists::<FileDesk, HostRuntime>(rt.alloc(), &rt);
+}
+
+// The lists of calls that are made of files alone.
+fn make_calls<D: TestDesk + Drop, R: Abort + Env>(alloc: Global, rt: &R) {
+    let migration = ask_behind::<D, R>(alloc, rt, FIRST_FILES, "migration", MIGRATION);
+    let rows = ask_behind_forty::<D, R>(alloc, rt, "rows", DRAINED_ROWS);
+    let moved = ask_list::<D, R>(alloc, rt, "moved", MOVED_ROWS);
+    let is_one = migration | rows | moved;
+    expect(rt, is_one, "no cases of this name");
 }
 
 #[test]

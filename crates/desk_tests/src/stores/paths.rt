@@ -5,7 +5,7 @@
 use crate::asking::expect_asked;
 use crate::cases::expect;
 use crate::disks::failing_files;
-use crate::files::{Call, Opened, act_on_files, close};
+use crate::files::{ask_in_files, close};
 use desk_store::{DeskStore, MigrateAnswer, migrate, migrate_files};
 use price_rules::precedence::Precedence;
 use sqlite::{FileStore, Files, Unknown};
@@ -19,16 +19,15 @@ const PATH: &str = "shop.db";
 fn ask_and_close<D: Disk + Drop>(
     alloc: Global,
     stop: &impl Abort,
-    desk: DeskStore<FileStore<D>>,
+    mut desk: DeskStore<FileStore<D>>,
     request: &str,
     answers: &str,
 ) -> Files<D> {
     let rules = Precedence::none(alloc);
     let mut output = Vec::new(alloc);
-    let call = Call::Ask(&rules, request);
-    let (opened, ended) = act_on_files(alloc, Opened::Desk(desk), call, &mut output);
+    let ended = ask_in_files(alloc, &mut desk, &rules, request, &mut output);
     expect_asked(stop, ended, output.as_slice(), answers, request);
-    let (files, is_closed) = close(opened);
+    let (files, is_closed) = close(desk);
     expect(stop, is_closed, "a desk that does not close");
     files
 }

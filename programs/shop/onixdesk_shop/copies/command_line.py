@@ -1,6 +1,7 @@
 """The command line of desk-copy."""
 
 import argparse
+import sqlite3
 import time
 from pathlib import Path
 
@@ -8,15 +9,14 @@ from onixdesk_shop.copies.copying import Copied, copy_desk
 from onixdesk_shop.copies.keeping import CORRECTIONS, UNFINISHED, keep_latest, named
 from onixdesk_shop.desk_files import check
 from onixdesk_shop.ends import parser_of
-from onixdesk_shop.faults import DONE, Fault
+from onixdesk_shop.faults import DONE, FAILED, Fault
 from onixdesk_shop.lines import ERROR
 from onixdesk_shop.machine import Machine
 from onixdesk_shop.places import LEDGER, LEDGERS
 
 DESCRIPTION = """\
 Copies a running desk: the database FILE and its log FILE-wal, both as of one moment, under their names into a new
-FOLDER. It has all that the desk had answered when the copy began. SQLite checks the copy, and FOLDER appears only once
-it is complete, sound and on the disk. With --inboxes it has the ledgers of the inboxes too."""
+FOLDER, which appears only once it is sound and on the disk. With --inboxes it has the ledgers of the inboxes too."""
 
 # The LimitDATA of the desk's unit.
 LIMIT = 1800 << 20
@@ -28,18 +28,26 @@ OF_ITS_OWN, FOR_A_BYTE = 16_000_000, 1.1
 def command_line() -> argparse.ArgumentParser:
     parser = parser_of("desk-copy", DESCRIPTION, inboxes=None)
     add = parser.add_argument
-    help_of_keep = "FOLDER has a folder for each copy, named by its second; N stay: all but the last of a day go first"
-    add("--keep", metavar="N", type=int, help=help_of_keep)
+    add("--keep", metavar="N", type=int, help="FOLDER has a folder for each copy; N stay, the last of each day longest")
     add("file", metavar="FILE", type=Path, help="the database that the desk has open")
     add("folder", metavar="FOLDER", type=Path, help="a folder that does not exist yet; with --keep one that does")
     return parser
 
 
-def copy_ledgers(machine: Machine, inboxes: Path, target: Path) -> None:
-    """Copies each inbox's ledger after the desk: so the ledgers have the text of each message in the copy."""
+def copy_ledgers(machine: Machine, inboxes: Path, target: Path) -> int:
+    """Copies each inbox's ledger after the desk: so the ledgers have the text of each message in the copy. Returns the
+    status: a ledger that cannot be read is reported, and left out."""
+    status = DONE
     machine.make_folder(target)
     for ledger in machine.paths(inboxes, f"*/{LEDGER}"):
-        machine.backup(ledger, target / f"{ledger.parent.name}.db")
+        copy = target / f"{ledger.parent.name}.db"
+        try:
+            machine.backup(ledger, copy)
+        except sqlite3.Error as error:
+            machine.remove(copy)
+            machine.tell(ERROR, f"{ledger}: {error}; the copy lacks this ledger")
+            status = FAILED
+    return status
 
 
 def work(machine: Machine, options: argparse.Namespace) -> int:
@@ -51,17 +59,17 @@ def work(machine: Machine, options: argparse.Namespace) -> int:
             raise Fault(f"{parent}: another program is at work there")
         new = parent / UNFINISHED
         try:
-            place, found = copy_by(machine, new, folder, options)
+            place, found, status = copy_by(machine, new, folder, options)
         finally:
             machine.remove_tree(new)
         if options.keep:
             keep_latest(machine, folder, options.keep, place)
     machine.write(f"{place}: as of {time.strftime('%F %T UTC', time.gmtime(found.moment // 1_000_000_000))}\n")
     tell_room(machine, options.file, found)
-    return DONE
+    return status
 
 
-def copy_by(machine: Machine, new: Path, folder: Path, options: argparse.Namespace) -> tuple[Path, Copied]:
+def copy_by(machine: Machine, new: Path, folder: Path, options: argparse.Namespace) -> tuple[Path, Copied, int]:
     """Makes a copy that is checked and on the disk before it gets its name."""
     machine.remove_tree(new)
     machine.make_folder(new)
@@ -69,8 +77,7 @@ def copy_by(machine: Machine, new: Path, folder: Path, options: argparse.Namespa
     check(machine, new / options.file.name, options.file)
     if machine.exists(corrections := options.file.with_name(CORRECTIONS)):
         machine.copy(corrections, new / CORRECTIONS)
-    if options.inboxes:
-        copy_ledgers(machine, options.inboxes, new / LEDGERS)
+    status = copy_ledgers(machine, options.inboxes, new / LEDGERS) if options.inboxes else DONE
     machine.sync_tree(new)
     # Of several copies in a second the others have the names of later ones.
     place, second = folder, found.moment // 1_000_000_000
@@ -80,7 +87,7 @@ def copy_by(machine: Machine, new: Path, folder: Path, options: argparse.Namespa
         raise Fault(f"{place}: it already exists")
     machine.rename(new, place)
     machine.sync_folder(place.parent)
-    return place, found
+    return place, found, status
 
 
 def tell_room(machine: Machine, file: Path, found: Copied) -> None:

@@ -22,7 +22,7 @@ if TYPE_CHECKING:
 
 # How many references it asks for, and how many of those that the desk has it compares; how many questions it asks about
 # all of them together, and how many at once, since others wait meanwhile.
-MOST_ASKED, MOST_LOOKED_AT, MOST_QUESTIONS, AT_ONCE = 4_000, 1_000, 12_000, 200
+MOST_ASKED, MOST_LOOKED_AT, MOST_QUESTIONS, MOST_KINDS, AT_ONCE = 4_000, 1_000, 12_000, 100, 200
 
 DAYS = 90
 
@@ -121,7 +121,7 @@ def fitting(products: dict[str, list[Product]]) -> dict[str, Records]:
 
 
 def kinds_of(inbox: Inbox, products: dict[str, list[Product]]) -> list[Kind]:
-    """The kinds of prices to compare: the shop's, and the one of most prices in the file."""
+    """The kinds of prices to compare: the shop's, then those of the file, the most frequent first."""
     prices: Counter[tuple[str, str]] = Counter()
     countries: Counter[str] = Counter()
     quantities: Counter[int] = Counter()
@@ -137,20 +137,18 @@ def kinds_of(inbox: Inbox, products: dict[str, list[Product]]) -> list[Kind]:
             if record[0] == "Price" and len(record) > 9 and record[9]:
                 quantities[int(record[9])] += 1
     shop = inbox.shop
-    of_file = [(currency, price_type) for (price_type, currency), _ in prices.most_common(2)]
+    of_file = [(currency, price_type) for (price_type, currency), _ in prices.most_common()]
     pairs = [*([(shop.currency, shop.price_type)] if shop else []), *of_file]
-    most = countries.most_common(2)
-    places = [*([shop.country] if shop else []), *(name for name, _ in most)] or ["GB"]
-    copies = [*(shop.quantities[:3] if shop else [1]), *(number for number, _ in quantities.most_common(1))]
+    places = [*([shop.country] if shop else []), *(name for name, _ in countries.most_common())] or ["GB"]
+    copies = [*(shop.quantities if shop else [1]), *(number for number, _ in quantities.most_common(3))]
     kinds = [Kind(place, *pair, number) for pair in pairs for place in places for number in copies]
-    return list(dict.fromkeys(kinds)) or [Kind("GB", "GBP", "02", 1)]
+    return list(dict.fromkeys(kinds))[:MOST_KINDS] or [Kind("GB", "GBP", "02", 1)]
 
 
 def ask(inbox: Inbox, questions: list[str]) -> Iterator[Records]:
     """The answers of the open desk."""
     for start in range(0, len(questions), AT_ONCE):
-        some = questions[start : start + AT_ONCE]
-        yield from answers_in(inbox.desk.batch("\n".join(some) + "\n"))
+        yield from answers_in(inbox.desk.batch("\n".join(questions[start : start + AT_ONCE]) + "\n"))
 
 
 def known_of(inbox: Inbox, products: dict[str, list[Product]], kind: Kind) -> dict[str, str]:
@@ -216,9 +214,6 @@ def offers_in(answer: Records) -> dict[tuple[str, str], Spans]:
     return dict(found)
 
 
-# The differences
-
-
 def compare(
     findings: Findings, isbn: str, spans: list[tuple[Spans, Spans]], makes_record: bool, is_unchosen: bool
 ) -> None:
@@ -244,5 +239,4 @@ def amounts(old: Spans, new: Spans) -> Iterator[tuple[int | None, int | None]]:
 
 
 def least(spans: Spans, day: str) -> int | None:
-    found = [amount for first, last, amount in spans if first <= day <= last and amount is not None]
-    return min(found, default=None)
+    return min((amount for first, last, amount in spans if first <= day <= last and amount is not None), default=None)

@@ -35,9 +35,9 @@ def with_deletions(inbox: Inbox, feed: Feed, gaps: Gaps) -> list[Message]:
     inbox.ledger.set_of_file(feed.file, not_deleted=why)
     if why or not gone:
         return feed.messages
-    articles = inbox.ledger.articles()
-    if len(gone) >= LEAST and len(gone) * 5 > articles and not inbox.is_let_in(feed.file):
-        raise Quarantine(f"it no longer names {len(gone)} of {articles} articles, which would be deleted")
+    lost, articles = len(gone) + feed.lost, inbox.ledger.articles()
+    if lost >= LEAST and lost * 5 > articles and not inbox.is_let_in(feed.file):
+        raise Quarantine(f"{lost} of {articles} articles would be deleted, {len(gone)} not named, or lose their price")
     return filled(feed.messages, gone)
 
 
@@ -85,8 +85,7 @@ def with_records(message: Message, added: list[list[str]]) -> Message:
     """A message with more products before its end."""
     if not added:
         return message
-    records = list(records_of(message.text))
-    body = [record for record in records if not is_end(record)]
+    body = [record for record in records_of(message.text) if not is_end(record)]
     text = text_of([*body, *added, ["EndMessage", str(len(body) + len(added))]])
     return replace(message, text=text.encode(), deletions=len(added))
 

@@ -1,8 +1,6 @@
 """Judges one file: converts, checks and compares it, and writes the result into the ledger in one transaction."""
 
 import json
-import re
-import shlex
 import sqlite3
 import traceback
 from collections import Counter
@@ -16,15 +14,17 @@ from onixdesk_shop.feeds import Refusal, Said, check, convert
 from onixdesk_shop.inbox import full, quarantine
 from onixdesk_shop.inbox.context import Inbox
 from onixdesk_shop.inbox.ledger import STANDING, File, Message, Row, State
-from onixdesk_shop.inbox.posting import REASONS, begin_again, give_back, judge_anew, why_refused
+from onixdesk_shop.inbox.posting import REASONS, begin_again, give_back, judge_anew, offset_for, why_refused
 from onixdesk_shop.inbox.quarantine import Quarantine
 from onixdesk_shop.lines import ERROR, NOTICE, WARNING, cut, ranges
 from onixdesk_shop.messages import header_of, is_message, products_of
 from onixdesk_shop.places import WORK
-from onixdesk_shop.settings import OWN
 
 # With more records of one ISBN, a question about it keeps all others waiting.
 MOST_RECORDS_OF_ONE_ISBN = 1000
+
+# How long a conversion and each check may take, and those of a file which a person let in.
+SECONDS, LET_IN_SECONDS = 60, 1800
 
 
 @dataclass
@@ -38,6 +38,7 @@ class Feed:
     said: Said = field(default_factory=Said)
     products: int = 0
     bare: int = 0
+    lost: int = 0
 
 
 def judge(inbox: Inbox, file: File, gaps: Gaps) -> None:
@@ -71,18 +72,6 @@ def judge(inbox: Inbox, file: File, gaps: Gaps) -> None:
         quarantine_file(inbox, file, f"it cannot be judged: {type(error).__name__} at {where}: {cut(str(error))}")
 
 
-def offset_for(inbox: Inbox, file: File, gaps: Gaps) -> list[str]:
-    """The setting with which a wholesaler goes on that seems to begin again at 1."""
-    settings, last = inbox.settings, inbox.ledger.last_taken()
-    if settings.number != OWN or file.ending == ".csv" or file.number is None or last is None or file.time < last:
-        return []
-    before = max(gaps.next - 1, gaps.greatest or 0) // settings.parts
-    if before < 2 or file.number > (settings.given("--number-offset", 0) + 1) * settings.parts:
-        return []
-    words = re.sub(r"--number-offset[ =]\S+", "", shlex.join(settings.words)).split()
-    return [f"if it begins again at 1: WORDS={' '.join([*words, '--number-offset', str(before)])}"]
-
-
 def quarantine_file(inbox: Inbox, file: File, why: str) -> None:
     with inbox.ledger.step():
         give_back(inbox, file)
@@ -93,7 +82,7 @@ def quarantine_file(inbox: Inbox, file: File, why: str) -> None:
 
 def feed_of(inbox: Inbox, file: File, gaps: Gaps, words: list[str], terms: bytes | None) -> Feed:
     """A file as messages, under the number that it has or would get."""
-    source = inbox.stored(file)
+    source, seconds = inbox.stored(file), LET_IN_SECONDS if inbox.is_let_in(file) else SECONDS
     if not inbox.machine.exists(source):
         raise Refusal("its bytes are not kept any more; have it sent again")
     if file.ending == ".csv":
@@ -107,9 +96,9 @@ def feed_of(inbox: Inbox, file: File, gaps: Gaps, words: list[str], terms: bytes
             first = kept[0] if kept else inbox.ledger.next_number(gaps, inbox.settings.parts)
             number = ["--number", str((first - 1) // inbox.settings.parts + 1)]
         texts, said = convert(
-            inbox.machine, inbox.places.program, source, [*words, *number], terms, inbox.folder / WORK
+            inbox.machine, inbox.places.program, source, [*words, *number], terms, inbox.folder / WORK, seconds
         )
-    return Feed(file, [message_of(inbox, text) for text in texts], words, terms, said)
+    return Feed(file, [message_of(inbox, text, seconds) for text in texts], words, terms, said)
 
 
 def agreement(inbox: Inbox, file: File) -> str:
@@ -122,9 +111,9 @@ def agreement(inbox: Inbox, file: File) -> str:
     return inbox.ledger.agreement(inbox.series, inbox.settings.sender, addressee=addressee)
 
 
-def message_of(inbox: Inbox, text: bytes) -> Message:
+def message_of(inbox: Inbox, text: bytes, seconds: int) -> Message:
     """A text of this wholesaler, with a number, that the desk takes; raises Refusal for any other."""
-    why = check(inbox.machine, inbox.places.program, text)
+    why = check(inbox.machine, inbox.places.program, text, seconds)
     if why or not is_message(text):
         raise Refusal(why or "its records are not one message")
     header = header_of(text)

@@ -200,8 +200,6 @@ class Ledger:
         )
         return found
 
-    # Figures about files
-
     def count_waiting(self, gaps: Gaps | None) -> int:
         """The files that wait for the desk or for a number, or that the desk now lacks in part."""
         waiting = {file.id for file in self.files("state IN ('new', 'posting', 'held')")}

@@ -1,6 +1,8 @@
 """Posts to the desk: only the ledger's text, in order of number."""
 
 import itertools
+import re
+import shlex
 
 from onixdesk_shop.desk import Gaps, Refused, Taken
 from onixdesk_shop.faults import Fault
@@ -8,6 +10,7 @@ from onixdesk_shop.inbox.context import Inbox
 from onixdesk_shop.inbox.ledger import Decision, File, Row, State
 from onixdesk_shop.lines import ERROR, NOTICE, WARNING, count, cut, ranges
 from onixdesk_shop.messages import products_of
+from onixdesk_shop.settings import OWN
 
 # How often the desk is asked again: closing a gap lets it apply what waited.
 ROUNDS = 3
@@ -71,7 +74,7 @@ def post_row(inbox: Inbox, row: Row, gaps: Gaps) -> None:
         if isinstance(answer, Taken):
             settle_taken(inbox, current, answer)
         else:
-            settle_refused(inbox, current, answer)
+            settle_refused(inbox, current, answer, gaps)
 
 
 def settle_taken(inbox: Inbox, row: Row, answer: Taken) -> None:
@@ -100,9 +103,8 @@ def settle_file(inbox: Inbox, file: File) -> None:
             inbox.tell_file(NOTICE, file, f"{state}: {ranges(numbers)}{'; ' if file.why else ''}{file.why}")
 
 
-def settle_refused(inbox: Inbox, row: Row, answer: Refused) -> None:
-    ledger, why = inbox.ledger, why_refused(answer)
-    file = ledger.file(row.file)
+def settle_refused(inbox: Inbox, row: Row, answer: Refused, gaps: Gaps) -> None:
+    ledger, file, why = inbox.ledger, inbox.ledger.file(row.file), why_refused(answer)
     # A message that the desk took before keeps that answer: once the desk lacks it, it is posted again as it is.
     is_kept = row.was_taken and answer.reason in ("waived", "other-contents", "unknown-series")
     ledger.set_message(row.number, State.REFUSED, "" if is_kept else answer.said)
@@ -116,7 +118,19 @@ def settle_refused(inbox: Inbox, row: Row, answer: Refused) -> None:
     ledger.set_state(file, State.REFUSED, why)
     # Nobody may waive a number that the desk has, or has no series for.
     is_lacking = answer.reason not in (*QUICKER, "unknown-series", "other-series")
-    inbox.tell_refused(file, why, row.number if is_lacking else None)
+    inbox.tell_refused(file, why, row.number if is_lacking else None, *offset_for(inbox, file, gaps))
+
+
+def offset_for(inbox: Inbox, file: File, gaps: Gaps) -> list[str]:
+    """The setting with which a wholesaler goes on that seems to begin again at 1."""
+    settings, last = inbox.settings, inbox.ledger.last_taken()
+    if settings.number != OWN or file.ending == ".csv" or file.number is None or last is None or file.time < last:
+        return []
+    before = max(gaps.next - 1, gaps.greatest or 0) // settings.parts
+    if before < 2 or file.number > (settings.given("--number-offset", 0) + 1) * settings.parts:
+        return []
+    words = re.sub(r"--number-offset[ =]\S+", "", shlex.join(settings.words)).split()
+    return [f"if it begins again at 1: WORDS={' '.join([*words, '--number-offset', str(before)])}"]
 
 
 def retry_unknown(inbox: Inbox, gaps: Gaps) -> None:
@@ -170,7 +184,7 @@ def post_unwaived(inbox: Inbox, gaps: Gaps) -> None:
         answer = inbox.desk.post(ledger.text(row.number))
         if isinstance(answer, Refused):
             with ledger.step():
-                settle_refused(inbox, row, answer)
+                settle_refused(inbox, row, answer, gaps)
                 ledger.forget_references(row.number)
 
 

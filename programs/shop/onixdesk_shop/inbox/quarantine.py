@@ -32,7 +32,7 @@ def look(inbox: Inbox, feed: Feed, gaps: Gaps) -> None:
     if not inbox.settings.stop or gaps.greatest is None:
         return
     if found := look_at(inbox, feed):
-        judge_findings(inbox, *found)
+        feed.lost = judge_findings(inbox, *found)
 
 
 def judge_numbers(inbox: Inbox, feed: Feed, gaps: Gaps) -> None:
@@ -60,8 +60,8 @@ def judge_products(feed: Feed) -> None:
         raise Quarantine(f"{emptied} of {total} products are emptied, and {feed.said.wrong} wrong")
 
 
-def judge_findings(inbox: Inbox, found: Findings, known: int) -> None:
-    """Raises Quarantine if too many articles are wrong, or lose what they have; the compared ones stand for all."""
+def judge_findings(inbox: Inbox, found: Findings, known: int) -> int:
+    """How many articles lose what they have; the compared ones stand for all. Quarantine if too many do, or are wrong."""
     total = found.looked_at
     for names, least, what in (
         (found.jumped, 0.2, "have a price more than twice or less than half of the desk's, or a new reference"),
@@ -76,3 +76,4 @@ def judge_findings(inbox: Inbox, found: Findings, known: int) -> None:
             f"{lost} of {articles} articles would lose their price, be deleted or no longer be chosen:"
             f" {', '.join(found.lost[:3])}"
         )
+    return lost

@@ -17,8 +17,7 @@ from onixdesk_shop.settings import words
 from onixdesk_shop.shop_json import read_shop
 
 DESCRIPTION = """\
-Says what a shop has to know of a wholesaler's sample feed before it agrees on anything: suppliers, prices and discount
-codes, what the converter leaves out, for how many articles a desk would give a price, and what to paste into the
+Says what a shop has to know of a wholesaler's sample feed before it agrees on anything, and what to paste into the
 agreement, the settings of the inbox and a table of terms. It neither asks nor changes a desk of the shop."""
 
 TO_PASTE = "To paste; the last field of Agree is to be the number of the first message that the desk gets"

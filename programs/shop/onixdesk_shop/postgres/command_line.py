@@ -13,10 +13,9 @@ from onixdesk_shop.postgres.following import call_of, check_version, script
 from onixdesk_shop.rules import rules_of
 
 DESCRIPTION = """\
-Updates the tables of the schema desk in a PostgreSQL database from a running desk, in one transaction. A reader sees
-the desk of one moment, which desk.moment has. The functions desk.prices, desk.choice, desk.calendar and desk.gaps
-answer as the desk did then; desk.choice uses the precedence table of --rules. After a fault the schema is as it was.
-None of this is proved. It needs psql, from Debian's postgresql-client."""
+Updates the tables of the schema desk in a PostgreSQL database from a running desk, in one transaction. The functions
+desk.prices, desk.choice, desk.calendar and desk.gaps answer as the desk did at desk.moment; desk.choice uses the
+precedence table of --rules. None of this is proved. It needs psql, from Debian's postgresql-client."""
 
 DATABASE = "which database, in the words of libpq, as 'host=/run/postgresql dbname=shop'; else the user's own"
 

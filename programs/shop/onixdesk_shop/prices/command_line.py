@@ -18,8 +18,7 @@ from onixdesk_shop.shop_json import Shop, read_shop
 
 DESCRIPTION = """\
 Writes a line for each article that a series offers into FOLDER/prices.csv: from which wholesaler the shop buys it, at
-what price, and its recommended price. The desk's own program answers from a copy, so nobody waits. The earlier file
-stays beside it, as prices.before.csv; after a fault both are as they were."""
+what price, and its recommended price. The earlier file stays beside it, as prices.before.csv."""
 
 FILE, BEFORE = "prices.csv", "prices.before.csv"
 

@@ -10,9 +10,8 @@ from onixdesk_shop.restores.placing import Work
 
 DESCRIPTION = """\
 Replaces the desk by one without the messages that were applied: its series begin with the numbers that their
-catalogues need before the next one. It is made of a copy while the desk answers. The command says first what is given
-up, and asks; the inboxes post again what they took meanwhile. The old files stay beside the desk. If no line says that
-the new desk is in place, the old one is. After a kill, run the same command again."""
+catalogues need before the next one. It says first what is given up, and asks. The old files stay beside the desk. If no
+line says that the new desk is in place, the old one is. After a kill, run the same command again."""
 
 
 def command_line() -> argparse.ArgumentParser:

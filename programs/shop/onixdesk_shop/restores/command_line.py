@@ -7,19 +7,18 @@ from onixdesk_shop.ends import parser_of
 from onixdesk_shop.faults import DONE, FAILED, Failed, Fault
 from onixdesk_shop.lines import ERROR, WARNING
 from onixdesk_shop.machine import Machine
-from onixdesk_shop.places import DESK_FILE, INBOX_SETTINGS, INBOXES, PROGRAM
+from onixdesk_shop.places import DESK_FILE, INBOX_SETTINGS, PROGRAM
 from onixdesk_shop.restores.inboxes import inboxes_in, wait_for_all
 from onixdesk_shop.restores.restoring import Restore
 from onixdesk_shop.units import DESK, Units
 
-PATHS = {"db": DESK_FILE, "inboxes": INBOXES, "settings": INBOX_SETTINGS, "program": PROGRAM}
+PATHS = {"db": DESK_FILE, "settings": INBOX_SETTINGS, "program": PROGRAM}
 
 DESCRIPTION = """\
-Replaces the desk by COPY, a folder that desk-copy made; the desk's own files get another name. SQLite and the desk's
-program check the copy. It lists what the inboxes will post again, each file with the command that refuses it, and asks;
-agreements and waivers that the desk has and the copy lacks are made again. Then it stops the units of onixdesk that
-run, puts the two files in place, starts the units, and waits until the inboxes have posted everything again.
-After a kill, run the same command again."""
+Replaces the desk by COPY, a folder that desk-copy made; the desk's own files get another name. It lists what the
+inboxes, whose folder is beside the desk's, will post again, each file with the command that refuses it, and asks. Then
+it stops the units of onixdesk that run, starts them again, and waits until everything is posted again. After a kill,
+run the same command again."""
 
 
 def command_line() -> argparse.ArgumentParser:
@@ -30,8 +29,7 @@ def command_line() -> argparse.ArgumentParser:
     add("--gaps", action="store_true", help="accepts a copy that lacks messages which no inbox can post again")
     add("--before-correction", action="store_true", help="accepts a copy from before a correction of the desk's text")
     add("--text", metavar="FILE", type=Path, help="puts a desk in place that is made from this corrected text of COPY")
-    help_of_said = "what was corrected, for the file corrections beside it"
-    add("--said", metavar="TEXT", default="what was refused is left out", help=help_of_said)
+    add("--said", metavar="TEXT", default="what was refused is left out", help="what the list of corrections says")
     add("--refuse", metavar=("MARK", "SERIES"), nargs=2, help="has the inbox refuse this file once you answered yes")
     add("copy", metavar="COPY", type=Path, help="a folder with the two files of a desk, of the name of the desk's")
     return parser
@@ -68,6 +66,6 @@ def status_of(machine: Machine, run: Restore) -> int:
     if DESK not in run.work.started:
         machine.tell(ERROR, f"systemctl start {DESK}; the desk did not run, and is not started")
         return FAILED
-    inboxes = inboxes_in(machine, run.options.inboxes, run.options.settings)
+    inboxes = inboxes_in(machine, run.inboxes_folder, run.options.settings)
     has_all = run.work.is_started and wait_for_all(machine, inboxes, run.planned, run.work.started) and run.has_all
     return DONE if has_all else FAILED

@@ -11,7 +11,7 @@ from onixdesk_shop.ends import program_of
 from onixdesk_shop.faults import Failed, Fault
 from onixdesk_shop.lines import ERROR, NOTICE, WARNING, cut, ranges, shown
 from onixdesk_shop.machine import Machine
-from onixdesk_shop.places import LEDGER, LEDGERS
+from onixdesk_shop.places import INBOXES, LEDGER, LEDGERS
 from onixdesk_shop.restores.inboxes import Inbox, inboxes_in
 from onixdesk_shop.restores.placing import Work
 from onixdesk_shop.units import Units
@@ -23,6 +23,8 @@ class Restore:
     def __init__(self, machine: Machine, options: argparse.Namespace) -> None:
         self.machine = machine
         self.options = options
+        # The inboxes are beside the folder of the desk.
+        self.inboxes_folder = options.db.absolute().parent.parent / INBOXES.name
         self.work = Work(machine, options.db)
         self.units = Units(machine)
         self.desk = DeskFile(machine, program_of(options.program), self.work.new)
@@ -40,7 +42,7 @@ class Restore:
         machine, options, name = self.machine, self.options, self.options.db.name
         made = corrections_since(machine, options.db.parent, options.copy)
         if made and not options.before_correction:
-            raise Failed(f"{options.copy}: it is from before a correction (--before-correction): {made[0]}")
+            raise Failed(f"{options.copy}: it is from before a correction (--before-correction): {'; '.join(made)}")
         for line in made:
             machine.tell(WARNING, f"has to be made again: {line}")
         # SQLite leaves the third file if somebody has looked at a copy.
@@ -87,6 +89,7 @@ class Restore:
     def plan(self, present: Contents) -> tuple[list[str], list[str]]:
         """What is posted again, and what is lost, in lines."""
         reports, said, lost = self.desk.gaps(), [], []
+        refusal = "onixdesk-inbox --refuse {} {};".format(*self.options.refuse or ("", ""))
         had = present.beyond(self.base).messages
         for inbox in self.inboxes():
             gaps = reports.get(inbox.series)
@@ -96,7 +99,8 @@ class Restore:
             again = inbox.again(gaps)
             self.planned[inbox.series] = again.numbers
             self.has_refused |= any((inbox.series, number) in had for number in again.refused)
-            said += [f"{inbox.series}: the copy waits for number {gaps.next}", *again.lines]
+            said.append(f"{inbox.series}: the copy waits for number {gaps.next}")
+            said += [line for line in again.lines if not line.startswith(refusal)]
             if again.gone:
                 lost.append(f"{inbox.series}: the texts of {ranges(again.gone)} are not kept any more")
             had -= {(inbox.series, number) for number in {*again.numbers, *again.refused}}
@@ -108,7 +112,7 @@ class Restore:
     def inboxes(self) -> list[Inbox]:
         """The present inboxes, and those whose ledgers only the copy has."""
         machine, options = self.machine, self.options
-        found = inboxes_in(machine, options.inboxes, options.settings)
+        found = inboxes_in(machine, self.inboxes_folder, options.settings)
         known = {inbox.series for inbox in found}
         for name in self.ledgers_of_copy():
             if name not in known:
@@ -178,15 +182,15 @@ class Restore:
         """Puts a ledger of the copy in place if there is none, or one of an inbox that has never taken a file."""
         machine, options = self.machine, self.options
         for name in self.ledgers_of_copy():
-            folder = options.inboxes / name
+            folder = self.inboxes_folder / name
             present = Inbox(machine, name, folder / LEDGER, options.settings)
-            if not machine.exists(options.inboxes) or machine.exists(present.file) and not present.is_unused():
+            if not machine.exists(self.inboxes_folder) or machine.exists(present.file) and not present.is_unused():
                 continue
             machine.make_folder(folder)
-            machine.own(folder, options.inboxes)
+            machine.own(folder, self.inboxes_folder)
             new = folder / f".{LEDGER}"
             machine.copy(options.copy / LEDGERS / f"{name}.db", new)
-            machine.own(new, options.inboxes)
+            machine.own(new, self.inboxes_folder)
             # The log of a lost ledger would be replayed into this one.
             machine.remove(log_of(folder / LEDGER))
             machine.rename(new, folder / LEDGER)

@@ -17,7 +17,7 @@ use Rattle.desk_catalogue.proofs.MinimumLemmas.{held_without_minimums, none_afte
 use Rattle.desk_catalogue.specs.Runs.{AppliesSome, AreApplied}
 use Rattle.desk_catalogue.specs.Storable.{IsStorableProduct}
 use Rattle.desk_catalogue.proofs.StorableLemmas.{contents-storable}
-use Rattle.desk_catalogue.specs.declared.runs.Step.{Step}
+use Rattle.desk_catalogue.specs.declared.messages.Step.{Step}
 use Rattle.desk_catalogue.proofs.RunLemmas.{applied_then, none_applied}
 use Rattle.desk_catalogue.proofs.messages.apply_message.Goals as goal
 

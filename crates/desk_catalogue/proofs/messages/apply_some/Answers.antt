@@ -1,43 +1,53 @@
-use Rattle.std.proofs.Common.{◌≡◌, true, subst, sym, ◌∙◌, rules}
+use Rattle.std.proofs.Common.{◌≡◌, ◌+◌, ◌<◌, ap, [], ◌∷◌, arith, length, subst, sym, take, rules}
+use Rattle.std.proofs.lemmas.List.Elements.{All-take}
+use Rattle.catalogue_rules.specs.Effects.{after as after_all}
 use Rattle.onix_records.specs.declared.effects.Effect.{Effect}
 use Rattle.desk_tables.specs.Rows.{DeskRows}
-use Rattle.desk_catalogue.proofs.DoesLemmas.{did_as, did_fail, did_then}
-use Rattle.desk_catalogue.proofs.MinimumLemmas.{record_read_as}
-use Rattle.desk_catalogue.specs.Calls.{FindsAs}
-use Rattle.desk_catalogue.specs.Runs.{brings_new, AppliesFound, AppliesRun}
+use Rattle.desk_catalogue.proofs.Additions.{take_push}
+use Rattle.desk_catalogue.proofs.DoesLemmas.{did_as, did_both, did_fail, did_then}
+use Rattle.desk_catalogue.specs.Runs.{ended, AppliesRun, AppliesSome, AreApplied, BeginsWith}
 use Rattle.desk_catalogue.specs.Storable.{IsStorableProduct}
-use Rattle.desk_catalogue.proofs.RunLemmas.{first_applied, first_new, found_new}
+use Rattle.desk_catalogue.proofs.RunLemmas.{applied_then, one_applied}
 use Rattle.desk_catalogue.proofs.messages.apply_some.Goals as goal
 
-pub returns-then-is_new-clause-does : goal.returns-then-is_new-clause-does
-returns-then-is_new-clause-does g c =
+pub returns-in_default-clause-does : goal.returns-in_default-clause-does
+returns-in_default-clause-does g c =
     let s = c.args.series.now in
     let ps = c.args.products.now in
-    let p = c.index-products-0.result in
-    let row = c.in_ok-row.row in
-    let there = c.is_there.result in
-    let new_one : brings_new p there ≡ true = sym c.brings_new-is_new.ensures ∙ c.if-is_new.true in
-    did_then c.in_ok-found.ensures c.apply_run.ensures.does
-    (λ rows between after step one two. λ k held reads storable.
-    let finds = one.1 (record_read_as c.args.with_minimums s p.reference k row rows c.in_ok-row.ensures held reads) in
-    subst (λ (d : DeskRows). AppliesRun s ps c.args.effect d step after) one.0 two k held
-    (first_new k p ps c.requires.some c.index-products-0.is (found_new s k p row there rows c.in_ok-row.ensures (λ o h. (finds o h).there ∙ sym c.is_there.ensures) new_one held)) storable)
+    let n = c.in_ok-run.run'.count in
+    let before = c.args.effect in
+    did_as {First = λ rows e after. AppliesSome c.args.with_minimums s ps before rows (record { count = n; effect = e }) after}
+    (did_then c.in_ok-run.ensures.does c.in_ok-effect.ensures.does
+    (λ rows between after e one two. λ m held reads storable. subst (λ (d : DeskRows). AppliesRun s (take n ps) before d e after) one.0 two m held (one.1 m held reads).new (All-take IsStorableProduct n ps storable)))
+    (λ rows after one. one)
 
 pub returns-clause-does : goal.returns-clause-does
 returns-clause-does g c =
     let s = c.args.series.now in
     let ps = c.args.products.now in
-    let p = c.index-products-0.result in
-    let row = c.in_ok-row.row in
-    let found = c.in_ok-found.found in
+    let w = c.args.with_minimums in
+    let run = c.in_ok-run.run' in
+    let n = run.count in
     let before = c.args.effect in
-    let counts = c.in_ok-effect.effect in
-    let Both : DeskRows → Effect → DeskRows → Type 0 = λ rows e after. FindsAs c.args.with_minimums row p rows found × AppliesFound row p found before rows e after in
-    did_as {First = Both}
-    (did_then c.in_ok-found.ensures c.in_ok-effect.ensures.does (λ rows between after e one two. (one.1, subst (λ (d : DeskRows). AppliesFound row p found before d e after) one.0 two)))
-    (λ rows after one. λ k held reads storable.
-    let finds = one.0 (record_read_as c.args.with_minimums s p.reference k row rows c.in_ok-row.ensures held reads) in
-    first_applied s k p ps before counts rows after c.requires.some c.index-products-0.is (one.1 s k c.in_ok-row.ensures held (subst IsStorableProduct (sym c.index-products-0.is) (storable 0 p c.requires.some)) finds))
+    let mid = c.in_ok-effect.effect in
+    let p = c.index-products-count.result in
+    let Both : DeskRows → Effect → DeskRows → Type 0 = λ rows e after. BeginsWith w s ps rows run × AppliesRun s (take n ps) before rows e after in
+    did_as {First = λ rows e after. AppliesSome w s ps before rows (record { count = n + 1; effect = e }) after}
+    (did_then {First = Both}
+    (did_then c.in_ok-run.ensures.does c.in_ok-effect.ensures.does (λ rows between after e one two. (one.1, subst (λ (d : DeskRows). AppliesRun s (take n ps) before d e after) one.0 two)))
+    c.in_ok-effect-2.ensures.does
+    (λ rows between after e one two. λ m held reads storable.
+    let begins = one.0 m held reads in
+    let first = one.1 m held begins.new (All-take IsStorableProduct n ps storable) in
+    let one_more : ended run.found ≡ 1 = ap ended c.in-Some.is in
+    let low : n < length ps = omega (arith, c.in_ok-run.ensures.within, one_more) in
+    let last = two (after_all m (take n ps)) first.catalogue (subst IsStorableProduct (sym c.index-products-count.is) (storable n p low)) (begins.next p c.in-Some.found c.index-products-count.is c.in-Some.is) in
+    subst (λ l. AreApplied s m l before rows e after) (sym (take_push ps n p low c.index-products-count.is)) (applied_then s m (take n ps) (p ∷ []) before mid e rows between after first (one_applied s (after_all m (take n ps)) p mid e between after last))))
+    (λ rows after one. one)
 
 pub returns-in_err-effect-clause-does : goal.returns-in_err-effect-clause-does
-returns-in_err-effect-clause-does g c = did_fail (search rules) c.in_ok-found.ensures c.in_err-effect.ensures.does
+returns-in_err-effect-clause-does g c = did_fail (search rules) c.in_ok-run.ensures.does c.in_err-effect.ensures.does
+
+pub returns-in_err-effect-2-clause-does : goal.returns-in_err-effect-2-clause-does
+returns-in_err-effect-2-clause-does g c =
+    did_fail (search rules) (did_both c.in_ok-run.ensures.does c.in_ok-effect.ensures.does) c.in_err-effect-2.ensures.does

@@ -1,9 +1,8 @@
-use Rattle.std.proofs.Common.{◌≡◌, Bool, false, List, ap, subst, ◌∙◌, rules}
+use Rattle.std.proofs.Common.{false, List, ap, subst, ◌∙◌, rules}
 use Rattle.std.specs.Option.{is_some}
 use Rattle.onix_records.specs.declared.parts.ProductIdentifier.{ProductIdentifier}
 use Rattle.onix_records.specs.declared.parts.ProductSupply.{ProductSupply}
-use Rattle.desk_tables.specs.Rows.{DeskRows}
-use Rattle.desk_catalogue.proofs.DoesLemmas.{did_as, did_fail, did_then}
+use Rattle.desk_catalogue.proofs.DoesLemmas.{both_told, did_as, did_fail}
 use Rattle.desk_catalogue.proofs.ReadLemmas.{record_found}
 use Rattle.desk_catalogue.specs.Calls.{HoldsSuppliesAs}
 use Rattle.desk_catalogue.specs.EntryRows.{supplies_of}
@@ -31,18 +30,11 @@ returns g c =
     let p = c.args.product.now in
     let told = c.in_ok-told.told in
     let supplies = c.as_slice-2.result.now in
-    let Both : DeskRows → Bool → DeskRows → Type 0 = λ rows b after. (after ≡ rows) × TellsIdentifiers row p.ids rows told × HoldsSuppliesAs c.args.with_minimums row supplies rows b in
-    did_as {First = Both}
-    (did_then c.in_ok-told.ensures c.in_ok-same_supplies.ensures
-    (λ rows between after b one two. (
-      two.0 ∙ one.0,
-      subst (λ (i : List ProductIdentifier). TellsIdentifiers row i rows told) c.as_slice.ensures one.1,
-      subst (λ (d : DeskRows). HoldsSuppliesAs c.args.with_minimums row supplies d b) one.0 two.1,
-    )))
+    did_as (both_told (TellsIdentifiers row c.as_slice.result.now) (HoldsSuppliesAs c.args.with_minimums row supplies) c.in_ok-told.ensures c.in_ok-same_supplies.ensures)
     (λ rows after one. (
       one.0,
-      λ reads. record_found row p rows told c.in-Some.same_identifiers c.in_ok-same_supplies.same_supplies one.1 c.in-Some.is
-          (λ yes o held. subst (λ (l : List ProductSupply). HasSupplyRows row l (supplies_of o)) c.as_slice-2.ensures (one.2 reads o held yes)),
+      λ reads. record_found row p rows told c.in-Some.same_identifiers c.in_ok-same_supplies.same_supplies (subst (λ (i : List ProductIdentifier). TellsIdentifiers row i rows told) c.as_slice.ensures one.1.0) c.in-Some.is
+          (λ yes o held. subst (λ (l : List ProductSupply). HasSupplyRows row l (supplies_of o)) c.as_slice-2.ensures (one.1.1 reads o held yes)),
     ))
 
 pub returns-in_err-same_supplies : goal.returns-in_err-same_supplies

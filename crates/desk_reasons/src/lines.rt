@@ -1,6 +1,6 @@
 //! The lines of a text on which its records begin.
 
-ghost use Rattle.std.specs.Prelude.{◌≡◌};
+ghost use Rattle.std.specs.Prelude.{◌≡◌, IfNone, IfSome};
 
 use memchr::{memchr, memchr2};
 
@@ -17,7 +17,7 @@ pub(crate) struct RecordLines<'a> {
 impl<'a> RecordLines<'a> {
     /// Those of this text. A byte order mark at its front is on the first line.
     pub(crate) fn new(text: &'a [u8]) -> RecordLines<'a>
-        ensures { (result.text ≡ text) × (result.line ≡ 1) × (result.at ≡ 0) × (result.passed ≡ 0) }
+        ensures { (result.text.now ≡ text.now) × (result.line ≡ 1) × (result.at ≡ 0) × (result.passed ≡ 0) }
     {
         RecordLines {
             text,
@@ -42,7 +42,10 @@ impl<'a> RecordLines<'a> {
 
     // The line of the next record where it is one line without quotation marks, as most are: such
     // lines are passed over by many bytes at once.
-    fn plain_line(&mut self) -> Option<u64> {
+    fn plain_line(&mut self) -> Option<u64>
+        ensures some { IfSome result (λ line. line ≡ self.old.line) }
+        ensures none { IfNone result (self.new ≡ self.old) }
+    {
         let rest = self.text.get(self.at..)?;
         let end = memchr(b'\n', rest)?;
         let record = rest.get(..end)?;

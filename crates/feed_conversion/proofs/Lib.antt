@@ -10,5 +10,4 @@ pub mod FirstRecords
 pub mod Utf8Texts
 pub mod Utf8Records
 pub mod TakenLaws
-pub mod RoomLaws
 pub mod NoTermLaws

@@ -1,7 +1,6 @@
 -- How a conversion ends, by how its reading did.
 use Rattle.std.proofs.Common.{◌≡◌, ℕ, List, [], fold, refl, sym, ap, subst, ◌∙◌}
 use Rattle.std.specs.Prelude.{Option, Result, Ok, Err}
-use Rattle.feed_xml.specs.declared.position.Position.{Position}
 use Rattle.feed_xml.specs.EncodingNames.{IsTextOf}
 use Rattle.feed_xml.specs.Tree.{Content}
 use Rattle.feed_outline.specs.Dialect.{Dialect}
@@ -14,7 +13,6 @@ use Rattle.feed_conversion.specs.declared.refusal.Fault.{Fault}
 use Rattle.feed_conversion.specs.declared.refusal.Fault.TheVariants as fault
 use Rattle.feed_conversion.specs.declared.refusal.Refusal.{Refusal}
 use Rattle.feed_conversion.specs.Conversion.{Options, conversion, vocabulary_by}
-use Rattle.feed_conversion.specs.Keeping.{Keeping}
 use Rattle.feed_conversion.specs.Outcomes.{Yields}
 use Rattle.feed_conversion.specs.private.Endings.{Comes, Ends}
 use Rattle.feed_conversion.specs.Packing.{Converted}
@@ -30,33 +28,32 @@ reason : {A E : Type 0} → E → Result A E → E
 reason other (Ok x) = other
 reason other (Err e) = e
 
-comes : {P N : Type 0} (k : Keeping P N) (bytes : Option (List ℕ)) (o : Options) (before : Taken P N) (parts : P) (notes : N) (ended : Result Counted Fault) (told : Result Converted Refusal)
+comes : {P : Type 0} (k : P → List ℕ → P) (bytes : Option (List ℕ)) (o : Options) (before : Taken P) (parts : P) (ended : Result Counted Fault) (told : Result Converted Refusal)
     → ((found : Result Converted Refusal) → told ≡ found → Yields bytes o found)
-    → Ends ended parts notes (result_map (behind k before) told) → Comes k bytes o before ended parts notes
+    → Ends ended parts (result_map (behind k before) told) → Comes k bytes o before ended parts
 unfolding value reason
-comes {P} {N} k bytes o before parts notes (Ok wrong) (Ok made) says e =
-    let is : taken parts notes wrong ≡ behind k before made = sym (ap (value (taken parts notes wrong)) e) in (
-      (made, says (Ok made) refl, ap (λ (c : Taken P N). c.counted) is, ap (λ (c : Taken P N). c.parts) is, ap (λ (c : Taken P N). c.notes) is),
+comes {P} k bytes o before parts (Ok wrong) (Ok made) says e =
+    let is : taken parts wrong ≡ behind k before made = sym (ap (value (taken parts wrong)) e) in (
+      (made, says (Ok made) refl, ap (λ (c : Taken P). c.counted) is, ap (λ (c : Taken P). c.parts) is),
       tt,
     )
-comes k bytes o before parts notes (Ok wrong) (Err refused) says e = absurd cc
-comes k bytes o before parts notes (Err (fault.Refused refusal)) (Ok made) says e = absurd cc
-comes k bytes o before parts notes (Err (fault.Refused refusal)) (Err refused) says e = (tt, says (Err refusal) (ap Err (ap (reason refusal) e)))
-comes k bytes o before parts notes (Err (fault.Unread unread place said)) told says e = absurd e
-comes k bytes o before parts notes (Err fault.Memory) told says e = (tt, tt)
+comes k bytes o before parts (Ok wrong) (Err refused) says e = absurd cc
+comes k bytes o before parts (Err (fault.Refused refusal)) (Ok made) says e = absurd cc
+comes k bytes o before parts (Err (fault.Refused refusal)) (Err refused) says e = (tt, says (Err refusal) (ap Err (ap (reason refusal) e)))
+comes k bytes o before parts (Err (fault.Unread unread said)) told says e = absurd e
+comes k bytes o before parts (Err fault.Memory) told says e = (tt, tt)
 
-read : {P N : Type 0} (k : Keeping P N) → Tell → (bytes : Option (List ℕ)) (o : Options) (before : Taken P N) (parts : P) (notes : N) (text : List ℕ) (d : Dialect) (place : Position) (inside : Content)
-    → IsTextOf bytes text → IsMessage (vocabulary_by o.terms) text d place inside
-    → (first s : State P N) → first ≡ start o before → s ≡ fold (after_lines k) first (parts_of (nodes_in (vocabulary_by o.terms) d [] place inside))
-    → (ended : Result Counted Fault) → Ends ended parts notes (finished k s) → Comes k bytes o before ended parts notes
-read {P} {N} k tell bytes o before parts notes text d place inside encoded message first s begins is ended e =
-    let told : finished k s ≡ result_map (behind k before) (conversion o (nodes_in (vocabulary_by o.terms) d [] place inside)) =
-    ap (finished k) (is ∙ ap (λ (t : State P N). fold (after_lines k) t (parts_of (nodes_in (vocabulary_by o.terms) d [] place inside))) begins) ∙ conversion_is k tell o before (nodes_in (vocabulary_by o.terms) d [] place inside) in
-    comes k bytes o before parts notes ended (conversion o (nodes_in (vocabulary_by o.terms) d [] place inside))
+read : {P : Type 0} (k : P → List ℕ → P) → Tell → (bytes : Option (List ℕ)) (o : Options) (before : Taken P) (parts : P) (text : List ℕ) (d : Dialect) (inside : Content)
+    → IsTextOf bytes text → IsMessage (vocabulary_by o.terms) text d inside
+    → (first s : State P) → first ≡ start o before → s ≡ fold (after_lines k) first (parts_of (nodes_in (vocabulary_by o.terms) d [] inside))
+    → (ended : Result Counted Fault) → Ends ended parts (finished k s) → Comes k bytes o before ended parts
+read {P} k tell bytes o before parts text d inside encoded message first s begins is ended e =
+    let told : finished k s ≡ result_map (behind k before) (conversion o (nodes_in (vocabulary_by o.terms) d [] inside)) =
+    ap (finished k) (is ∙ ap (λ (t : State P). fold (after_lines k) t (parts_of (nodes_in (vocabulary_by o.terms) d [] inside))) begins) ∙ conversion_is k tell o before (nodes_in (vocabulary_by o.terms) d [] inside) in
+    comes k bytes o before parts ended (conversion o (nodes_in (vocabulary_by o.terms) d [] inside))
     (λ found same. record {
       text = text;
       dialect = d;
-      place = place;
       inside = inside;
       encoded = encoded;
       message = message;
@@ -64,10 +61,10 @@ read {P} {N} k tell bytes o before parts notes text d place inside encoded messa
     }) (rw told at e)
 
 -- the same, of a message that was read with the vocabulary of the options
-pub read-by : {P N : Type 0} (k : Keeping P N) → Tell → (bytes : Option (List ℕ)) (o : Options) (vocabulary : List Word) → vocabulary_by o.terms ≡ vocabulary → (before : Taken P N) (parts : P) (notes : N) (text : List ℕ) (d : Dialect) (place : Position) (inside : Content)
-    → IsTextOf bytes text → IsMessage vocabulary text d place inside
-    → (first s : State P N) → first ≡ start o before → s ≡ fold (after_lines k) first (parts_of (nodes_in vocabulary d [] place inside))
-    → (ended : Result Counted Fault) → Ends ended parts notes (finished k s) → Comes k bytes o before ended parts notes
-read-by k tell bytes o vocabulary same before parts notes text d place inside encoded message first s begins is ended e =
-    read k tell bytes o before parts notes text d place inside encoded (subst (λ (v : List Word). IsMessage v text d place inside) (sym same) message) first s begins
-    (is ∙ ap (λ (v : List Word). fold (after_lines k) first (parts_of (nodes_in v d [] place inside))) (sym same)) ended e
+pub read-by : {P : Type 0} (k : P → List ℕ → P) → Tell → (bytes : Option (List ℕ)) (o : Options) (vocabulary : List Word) → vocabulary_by o.terms ≡ vocabulary → (before : Taken P) (parts : P) (text : List ℕ) (d : Dialect) (inside : Content)
+    → IsTextOf bytes text → IsMessage vocabulary text d inside
+    → (first s : State P) → first ≡ start o before → s ≡ fold (after_lines k) first (parts_of (nodes_in vocabulary d [] inside))
+    → (ended : Result Counted Fault) → Ends ended parts (finished k s) → Comes k bytes o before ended parts
+read-by k tell bytes o vocabulary same before parts text d inside encoded message first s begins is ended e =
+    read k tell bytes o before parts text d inside encoded (subst (λ (v : List Word). IsMessage v text d inside) (sym same) message) first s begins
+    (is ∙ ap (λ (v : List Word). fold (after_lines k) first (parts_of (nodes_in v d [] inside))) (sym same)) ended e

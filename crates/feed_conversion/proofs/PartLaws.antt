@@ -5,20 +5,20 @@ use Rattle.std.specs.List.{AllByRecursion, flat_map}
 use Rattle.std.proofs.lemmas.Bool.{ltb-false, ltb-true}
 use Rattle.std.proofs.lemmas.Grind.{flat_map-append}
 use Rattle.std.proofs.lemmas.List.Sums.{sum_by_push}
-use Rattle.feed_xml.specs.declared.position.Position.{Position}
+use Rattle.std.specs.Prelude.{⊤}
 use Rattle.feed_outline.specs.Composites.{text_in}
 use Rattle.feed_outline.specs.Nodes.{Nodes}
 use Rattle.feed_mapping.specs.Elements.{Composite}
 use Rattle.feed_mapping.specs.Header.{◌>>=◌, Choices, Heading, added, addressee_pair, first_number, heading_in, number_in, given_or, sender_in}
-use Rattle.feed_mapping.specs.Notes.{note, wrong}
+use Rattle.feed_mapping.specs.Notes.{wrong}
 use Rattle.feed_mapping.specs.ProductRecords.{Variant, has_wrong, variants}
 use Rattle.feed_mapping.specs.declared.header.HeaderRefusal.{HeaderRefusal}
 use Rattle.feed_mapping.specs.declared.header.HeaderRefusal.TheVariants as denied
 use Rattle.feed_mapping.specs.declared.notes.Wrong.TheVariants.{TooLarge}
 use Rattle.feed_conversion.specs.declared.refusal.Refusal.{Refusal}
 use Rattle.feed_conversion.specs.Messages.{fits, message_text}
-use Rattle.feed_conversion.specs.Packing.{Converted, ProductNote, Settings, Packing, after_product, after_products, all_parts, beyond_at, ended, noted, in_next_part, seen, with_variants, with_part, with_begun}
-use Rattle.feed_conversion.specs.Parts.{AreFull, Placing, IsFirst, IsFull, IsRight, Placed, is_placed_wrong, notes_by, placing_notes, part_texts, placed, placed_records, placed_of}
+use Rattle.feed_conversion.specs.Packing.{Converted, Settings, Packing, after_product, after_products, all_parts, beyond_at, ended, noted, in_next_part, seen, with_variants, with_part, with_begun}
+use Rattle.feed_conversion.specs.Parts.{AreFull, Placing, IsFirst, IsFull, IsRight, Placed, is_placed_wrong, notes_by, part_texts, placed, placed_records, placed_of}
 use Rattle.feed_conversion.proofs.Endings.{converted, ended_at, ended_by, joined}
 use Rattle.feed_conversion.specs.Tallies.{counted, counts_wrong, is_of_others, place_of, refused_for, tallied}
 use Rattle.feed_conversion.specs.declared.tally.Tally.{Tally}
@@ -97,25 +97,18 @@ pub record Holds (t : Settings) (w : Packing) (placings : List Placing) : Type 0
   pub stand : flat_map (λ p. p) (parts ++ begun ∷ []) ≡ flat_map placed_of placings
   pub full : AreFull t 0 (parts ++ begun ∷ [])
   pub fit : AreFit t 0 (parts ++ begun ∷ [])
-  pub notes : flat_map placing_notes placings ≡ w.notes
   pub wrong : count_by is_placed_wrong placings ≡ w.tally.wrong
   pub right : AllByRecursion (IsRight t) placings
 
 abbrev placing : Composite → Option Variant → Placing
 placing c variant = record { product = c; variant = variant }
 
-one_more_note : (placings : List Placing) (f : Placing) (notes : List ProductNote) → flat_map placing_notes placings ≡ notes
-    → flat_map placing_notes (placings ++ f ∷ []) ≡ notes ++ placing_notes f
-one_more_note placings f notes is =
-    flat_map-append placing_notes placings (f ∷ []) ∙ ap (λ (ns : List ProductNote). ns ++ (placing_notes f ++ [])) is
-    ∙ ap (λ (ns : List ProductNote). notes ++ ns) (append-nil (placing_notes f))
-
 one_more_wrong : (placings : List Placing) (c : Composite) (variant : Option Variant) (t : Tally) → count_by is_placed_wrong placings ≡ t.wrong
-    → count_by is_placed_wrong (placings ++ placing c variant ∷ []) ≡ (tallied t c (notes_by variant c)).wrong
-one_more_wrong placings c variant t is = sum_by_push (λ f. cond (is_placed_wrong f) 1 0) placings (placing c variant) ∙ go (has_wrong (notes_by variant c)) refl (is_of_others (notes_by variant c)) refl
+    → count_by is_placed_wrong (placings ++ placing c variant ∷ []) ≡ (tallied t c (notes_by variant)).wrong
+one_more_wrong placings c variant t is = sum_by_push (λ f. cond (is_placed_wrong f) 1 0) placings (placing c variant) ∙ go (has_wrong (notes_by variant)) refl (is_of_others (notes_by variant)) refl
   where
-    go : (b : Bool) → has_wrong (notes_by variant c) ≡ b → (alone : Bool) → is_of_others (notes_by variant c) ≡ alone
-        → count_by is_placed_wrong placings + cond (counts_wrong (notes_by variant c)) 1 0 ≡ (tallied t c (notes_by variant c)).wrong
+    go : (b : Bool) → has_wrong (notes_by variant) ≡ b → (alone : Bool) → is_of_others (notes_by variant) ≡ alone
+        → count_by is_placed_wrong placings + cond (counts_wrong (notes_by variant)) 1 0 ≡ (tallied t c (notes_by variant)).wrong
     go true e true a = rw (e, a) (omega (arith, is))
     go false e true a = rw (e, a) (omega (arith, is))
     go true e false a = rw (e, a) (omega (arith, is))
@@ -135,7 +128,7 @@ one_more_stands placings f ps is =
     ∙ sym (flat_map-append placed_of placings (f ∷ []))
 
 left_holds : (t : Settings) (w : Packing) (placings : List Placing) (c : Composite) → Holds t w placings → IsRight t (placing c None)
-    → Holds t (noted c (note c.element (wrong TooLarge []) ∷ []) w) (placings ++ placing c None ∷ [])
+    → Holds t (noted c (wrong TooLarge [] ∷ []) w) (placings ++ placing c None ∷ [])
 left_holds t w placings c h is = record {
   more = h.more;
   parts = h.parts;
@@ -146,7 +139,6 @@ left_holds t w placings c h is = record {
   stand = sym (append-nil (flat_map (λ p. p) (h.parts ++ h.begun ∷ []))) ∙ one_more_stands placings (placing c None) _ h.stand;
   full = h.full;
   fit = h.fit;
-  notes = one_more_note placings (placing c None) w.notes h.notes;
   wrong = one_more_wrong placings c None w.tally h.wrong;
   right = one_more_right t placings (placing c None) h.right is;
 }
@@ -171,7 +163,6 @@ joined_holds t w placings c f room h is = record {
   fit = fit-joined t 0 h.parts h.begun (h.begun ++ placed c f ∷ []) h.fit
       (let there : 0 + length h.parts ≡ w.full = omega (arith, h.count) in
       ap (λ (n : ℕ). fits (t.first n) (placed_records (h.begun ++ placed c f ∷ []))) there ∙ ap (λ (k : List (List (List ℕ))). fits (t.first w.full) k) (joined_records t w placings h c f) ∙ room);
-  notes = one_more_note placings (placing c (Some f)) w.notes h.notes;
   wrong = one_more_wrong placings c (Some f) w.tally h.wrong;
   right = one_more_right t placings (placing c (Some f)) h.right is;
 }
@@ -209,7 +200,6 @@ turned_holds t w placings c f less lacks room h is = record {
   fit = fit-turned t 0 (h.parts ++ h.begun ∷ []) (placed c f ∷ []) h.fit
       (let there : 0 + length (h.parts ++ h.begun ∷ []) ≡ w.full + 1 = omega (arith, written_count t w placings h) in
       ap (λ (n : ℕ). fits (t.first n) (placed_records (placed c f ∷ []))) there ∙ ap (λ (k : List (List (List ℕ))). fits (t.first (w.full + 1)) k) (one_record (placed c f)) ∙ room);
-  notes = one_more_note placings (placing c (Some f)) w.notes h.notes;
   wrong = one_more_wrong placings c (Some f) w.tally h.wrong;
   right = one_more_right t placings (placing c (Some f)) h.right is;
 }
@@ -220,7 +210,7 @@ abbrev pub value : {A E : Type 0} → A → Result A E → A
 value other (Ok x) = x
 value other (Err e) = other
 
-pub beyond_none : (most full : ℕ) (earlier : Option Position) (place : Position) → beyond_at most full earlier place ≡ None → (earlier ≡ None) × (ltb full most ≡ true)
+pub beyond_none : (most full : ℕ) (earlier : Option ⊤) (place : ⊤) → beyond_at most full earlier place ≡ None → (earlier ≡ None) × (ltb full most ≡ true)
 beyond_none most full (Some p) place e = absurd cc
 beyond_none most full None place e = (refl, go (ltb full most) refl)
   where
@@ -273,14 +263,13 @@ seen_holds t w c placings h = record {
   stand = h.stand;
   full = h.full;
   fit = h.fit;
-  notes = h.notes;
   wrong = h.wrong;
   right = h.right;
 }
 
 product_step : (t : Settings) (w : Packing) (c : Composite) (placings : List Placing) → (after_product t w c).beyond ≡ None → Step t w c (after_product t w c) placings
 product_step t w c placings none =
-    let s = forms_step t (seen t w c) c placings (variants t.opening t.supplies c) (λ f is more. (w.full + 1, within more, is)) none in
+    let s = forms_step t (seen t w c) c placings (variants t.opening t.supplies c.below) (λ f is more. (w.full + 1, within more, is)) none in
     record { none = s.none; holds = λ h. s.holds (seen_holds t w c placings h) }
   where
     within : ltb w.full t.most ≡ true → w.full + 1 ≤ t.most
@@ -333,13 +322,13 @@ part_there c nodes h e = go (ltb 0 c.parts) refl
         let other : Err denied.LastNumberTooGreat ≡ Ok n.0 = sym (no_part m.0) ∙ no in absurd cc
 
 -- ended well: no product is beyond the parts
-pub ended_ok : (t : Settings) (z : Packing) (made : Converted) → ended t z ≡ Ok made → (z.beyond ≡ None) × (converted (all_parts t z) z.notes (counted z.tally) ≡ made)
+pub ended_ok : (t : Settings) (z : Packing) (made : Converted) → ended t z ≡ Ok made → (z.beyond ≡ None) × (converted (all_parts t z) (counted z.tally) ≡ made)
 ended_ok t z made e = by (refused_for t.allowed z.tally) e
   where
-    last : (beyond : Option Position) → z.beyond ≡ beyond → ended_at t z beyond ≡ Ok made → (z.beyond ≡ None) × (converted (all_parts t z) z.notes (counted z.tally) ≡ made)
+    last : (beyond : Option ⊤) → z.beyond ≡ beyond → ended_at t z beyond ≡ Ok made → (z.beyond ≡ None) × (converted (all_parts t z) (counted z.tally) ≡ made)
     last (Some place) b now = absurd cc
-    last None b now = (b, ap (value (converted (all_parts t z) z.notes (counted z.tally))) now)
+    last None b now = (b, ap (value (converted (all_parts t z) (counted z.tally))) now)
 
-    by : (refused : Option Refusal) → ended_by t z refused ≡ Ok made → (z.beyond ≡ None) × (converted (all_parts t z) z.notes (counted z.tally) ≡ made)
+    by : (refused : Option Refusal) → ended_by t z refused ≡ Ok made → (z.beyond ≡ None) × (converted (all_parts t z) (counted z.tally) ≡ made)
     by (Some refusal) now = absurd cc
     by None now = last z.beyond refl now

@@ -1,6 +1,6 @@
 -- What has come of a message, and that the desk takes each part of it.
-use Rattle.std.proofs.Common.{◌≡◌, ◌≤◌, ◌<◌, ℕ, zero, suc, ◌+◌, ◌-◌, true, false, subst, List, [], ◌∷◌, ◌++◌, map, length, refl, sym, ap, ◌∙◌, arith, inl, inr}
-use Rattle.std.specs.Prelude.{Option, Some, None, Result, Ok, Err, nat_le}
+use Rattle.std.proofs.Common.{◌≡◌, ◌≤◌, ◌<◌, ℕ, zero, suc, ◌+◌, ◌-◌, true, subst, List, [], ◌∷◌, ◌++◌, map, length, refl, sym, ap, ◌∙◌, arith, inl, inr}
+use Rattle.std.specs.Prelude.{Option, Some, None, Ok, nat_le}
 use Rattle.std.specs.List.{AllByRecursion, flat_map, list_all}
 use Rattle.std.specs.Str.{is_utf8}
 use Rattle.std.proofs.lemmas.Bool.{and_parts, leb-true, ltb-true}
@@ -20,11 +20,8 @@ use Rattle.feed_mapping.specs.ProductRecords.{Variant, variants}
 use Rattle.feed_terms.specs.declared.term.Term.{Term}
 use Rattle.onix_records.specs.declared.row.Form.TheVariants.{Two}
 use Rattle.feed_mapping.specs.Rows.{HaveCodes, MayCompute, AreOf, AreProducts, message_records, numbered, part_record, references_of, with_number}
-use Rattle.feed_mapping.specs.declared.header.HeaderRefusal.{HeaderRefusal}
 use Rattle.feed_conversion.specs.Conversion.{Options, conversion, header_in, products_in, settings}
-use Rattle.feed_conversion.specs.private.Whole.{by_header, by_heading, by_refusal, first_refusal}
-use Rattle.feed_conversion.proofs.StageLaws.{decides}
-use Rattle.feed_conversion.specs.declared.refusal.Refusal.{Refusal}
+use Rattle.feed_conversion.proofs.StageLaws.{headed}
 use Rattle.feed_conversion.specs.Messages.{empty_messages, fits, message, message_text}
 use Rattle.feed_conversion.specs.Packing.{Converted, Settings, Packing, after_products, all_parts, no_packing}
 use Rattle.feed_conversion.proofs.Endings.{converted}
@@ -43,7 +40,7 @@ pub record Laws : Type 0 where
   pub opening : (c : Choices) (header : Nodes) (h : Heading) → heading_in c header ≡ Ok h → (before : ℕ) → before < c.parts
       → opening_of (part_record h header before) ≡ Some (numbered (h.number + before) h.opening)
   pub rows : (n : ℕ) (o : Opening) (fields : List (List ℕ)) → row_of (numbered n o) fields ≡ row_of o fields
-  pub one : (o : Opening) (choices : SupplyChoices) (c : Composite) → MayCompute o choices.terms → AllByRecursion (λ f. AreOf o f.records (references_of c.below)) (variants o choices c)
+  pub one : (o : Opening) (choices : SupplyChoices) (nodes : Nodes) → MayCompute o choices.terms → AllByRecursion (λ f. AreOf o f.records (references_of nodes)) (variants o choices nodes)
   pub form : (c : Choices) (header : Nodes) (h : Heading) → heading_in c header ≡ Ok h → h.opening.form ≡ Two
   pub none : (o : Opening) → AreProducts o [] []
   pub joined : (o : Opening) (a b : List (List (List ℕ))) (c d : List Product) → AreProducts o a c → AreProducts o b d → AreProducts o (a ++ b) (c ++ d)
@@ -124,9 +121,9 @@ first_own t before f (g ∷ fs) P (inl same) all = subst P (sym (ap (found f) sa
     found other (Some x) = x
 first_own t before f (g ∷ fs) P (inr rest) all = first_own t before f fs P rest.1 all.1
 
-fate_own : (l : Laws) (t : Settings) → MayCompute t.opening t.supplies.terms → (c : Composite) (variant : Option Variant) (before : ℕ) → IsFirst t before variant (variants t.opening t.supplies c) → AllByRecursion (IsOwn t) (placed_by variant c)
+fate_own : (l : Laws) (t : Settings) → MayCompute t.opening t.supplies.terms → (c : Composite) (variant : Option Variant) (before : ℕ) → IsFirst t before variant (variants t.opening t.supplies c.below) → AllByRecursion (IsOwn t) (placed_by variant c)
 fate_own l t may c None before is = tt
-fate_own l t may c (Some f) before is = (first_own t before f (variants t.opening t.supplies c) (λ g. AreOf t.opening g.records (references_of c.below)) is (l.one t.opening t.supplies c may), tt)
+fate_own l t may c (Some f) before is = (first_own t before f (variants t.opening t.supplies c.below) (λ g. AreOf t.opening g.records (references_of c.below)) is (l.one t.opening t.supplies c.below may), tt)
 
 fates_own : (l : Laws) (t : Settings) → MayCompute t.opening t.supplies.terms → (placings : List Placing) → AllByRecursion (IsRight t) placings → AllByRecursion (IsOwn t) (flat_map placed_of placings)
 fates_own l t may [] right = tt
@@ -166,7 +163,7 @@ may_compute o (Some terms) two coded = (two, coded)
 
 whole : (l : Laws) (o : Options) → HaveCodes o.terms → (nodes : Nodes) (made : Converted) (header : Composite) (h : Heading) → header_in nodes ≡ Some header → heading_in o.choices header.below ≡ Ok h
     → (z : Packing) → after_products (settings o h header.below) no_packing (products_in nodes) ≡ z → z.beyond ≡ None
-    → converted (all_parts (settings o h header.below) z) z.notes (counted z.tally) ≡ made → AreParts o nodes made
+    → converted (all_parts (settings o h header.below) z) (counted z.tally) ≡ made → AreParts o nodes made
 whole l o coded nodes made header h counts says z walked none is =
     let t = settings o h header.below in
     let firsts : Firsts t h.number = record {
@@ -186,7 +183,6 @@ whole l o coded nodes made header h counts says z walked none is =
       stand = refl;
       full = tt;
       fit = (firsts.fits_alone 0 (ltb-true 0 o.choices.parts there), tt);
-      notes = refl;
       wrong = refl;
       right = tt;
     } in
@@ -209,7 +205,6 @@ whole l o coded nodes made header h counts says z walked none is =
       placings = all.0;
       all = all.1;
       right = held.right;
-      notes = held.notes ∙ ap (λ (c : Converted). c.notes) is;
       wrong = held.wrong ∙ ap (λ (c : Converted). c.counted.wrong) is;
       parts = parts;
       stand = held.stand;
@@ -221,20 +216,8 @@ whole l o coded nodes made header h counts says z walked none is =
     }
 
 pub parts_are : (l : Laws) (o : Options) (nodes : Nodes) (made : Converted) → HaveCodes o.terms → conversion o nodes ≡ Ok made → AreParts o nodes made
-parts_are l o nodes made coded e = by (first_refusal o false nodes) (sym (decides o nodes) ∙ e)
-  where
-    after_header : (header : Composite) (r : Result Heading HeaderRefusal) → heading_in o.choices header.below ≡ r → header_in nodes ≡ Some header
-        → by_heading o (products_in nodes) header r ≡ Ok made → AreParts o nodes made
-    after_header header (Err refusal) f counts now = absurd cc
-    after_header header (Ok h) f counts now =
-        let t = settings o h header.below in
-        let (none, is) = ended_ok t (after_products t no_packing (products_in nodes)) made now in
-        whole l o coded nodes made header h counts f (after_products t no_packing (products_in nodes)) refl none is
-
-    go : (r : Option Composite) → header_in nodes ≡ r → by_header o (products_in nodes) r ≡ Ok made → AreParts o nodes made
-    go None f now = absurd cc
-    go (Some header) f now = after_header header (heading_in o.choices header.below) refl f now
-
-    by : (r : Option Refusal) → by_refusal o nodes r ≡ Ok made → AreParts o nodes made
-    by (Some refusal) now = absurd cc
-    by None now = go (header_in nodes) refl now
+parts_are l o nodes made coded e =
+    let it = headed o nodes made e in
+    let t = settings o it.heading it.header.below in
+    let (none, is) = ended_ok t (after_products t no_packing (products_in nodes)) made it.comes in
+    whole l o coded nodes made it.header it.heading it.counts it.says (after_products t no_packing (products_in nodes)) refl none is

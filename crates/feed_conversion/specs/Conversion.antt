@@ -1,5 +1,4 @@
--- What an ONIX message says to the desk: messages that the desk takes and notes on what is left
--- out, or why it is refused.
+-- What an ONIX message says to the desk: messages that the desk takes, or why it is refused.
 use Rattle.std.specs.Prelude.{ℕ, ◌+◌, List, ◌∷◌, Option, Some, None}
 use Rattle.std.specs.Prelude.{Result, Ok, Err, if◌then◌else◌, codes, decimal}
 use Rattle.std.specs.Option.{option_map_or}
@@ -81,9 +80,9 @@ header_refused header refusal =
 abbrev pub refused_behind : Nodes → Option Refusal
 refused_behind no_nodes = None
 refused_behind (node name tag text below rest) =
-    if bytes_eq name (codes "Header") then Some (why.SecondHeader tag.place)
+    if bytes_eq name (codes "Header") then Some (why.SecondHeader tt)
     else if bytes_eq name (codes "Product") then refused_behind rest
-    else if bytes_eq name stranger then Some (why.OtherNamespace tag.place)
+    else if bytes_eq name stranger then Some (why.OtherNamespace tt)
     else refused_behind rest
 
 -- what comes of a Header that says so, and of the elements behind it
@@ -103,8 +102,8 @@ abbrev pub conversion : Options → Nodes → Result Converted Refusal
 conversion o no_nodes = Err (why.NoHeader None)
 conversion o (node name tag text below rest) =
     if bytes_eq name (codes "Header")
-    then (if has_stranger below then Err (why.OtherNamespace tag.place)
+    then (if has_stranger below then Err (why.OtherNamespace tt)
     else after_header o (composite name tag text below) rest (heading_in o.choices below))
-    else if bytes_eq name (codes "Product") then Err (why.NoHeader (Some tag.place))
-    else if bytes_eq name stranger then Err (why.OtherNamespace tag.place)
+    else if bytes_eq name (codes "Product") then Err (why.NoHeader (Some tt))
+    else if bytes_eq name stranger then Err (why.OtherNamespace tt)
     else conversion o rest

@@ -2,7 +2,6 @@ pub mod Messages
 pub mod Tallies
 pub mod Packing
 pub mod Conversion
-pub mod Keeping
 pub mod Views
 pub mod private
 pub mod Outcomes

@@ -1,6 +1,5 @@
 -- How a conversion ends.
 use Rattle.std.specs.Prelude.{◌≡◌, ℕ, List, [], Option, Result, Err}
-use Rattle.feed_xml.specs.declared.position.Position.{Position}
 use Rattle.feed_xml.specs.EncodingNames.{IsTextOf}
 use Rattle.feed_xml.specs.Tree.{Content}
 use Rattle.feed_outline.specs.Dialect.{Dialect}
@@ -19,17 +18,14 @@ pub record Yields (bytes : Option (List ℕ)) (o : Options)
     (comes : Result Converted Refusal) : Type 0 where
   pub text : List ℕ
   pub dialect : Dialect
-  pub place : Position
   pub inside : Content
   pub encoded : IsTextOf bytes text
-  pub message : IsMessage (vocabulary_by o.terms) text dialect place inside
-  pub conversion : conversion o
-      (nodes_in (vocabulary_by o.terms) dialect [] place inside) ≡ comes
+  pub message : IsMessage (vocabulary_by o.terms) text dialect inside
+  pub conversion : conversion o (nodes_in (vocabulary_by o.terms) dialect [] inside) ≡ comes
 
 -- Refused: the bytes are a message, and that comes of it. Unread: what feed_outline says of such a
--- fault and its place. Of out of memory nothing is said.
+-- fault. Of out of memory nothing is said.
 abbrev pub ExplainsFault : Option (List ℕ) → Options → Fault → Type 0
 ExplainsFault bytes o (fault.Refused refusal) = Yields bytes o (Err refusal)
-ExplainsFault bytes o (fault.Unread unread place told) =
-    Explains (vocabulary_by o.terms) bytes unread place
+ExplainsFault bytes o (fault.Unread unread told) = Explains (vocabulary_by o.terms) bytes unread
 ExplainsFault bytes o fault.Memory = Unit {0}

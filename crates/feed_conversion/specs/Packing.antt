@@ -1,13 +1,12 @@
 -- The products of a message, packed into its parts one after the other.
 use Rattle.std.specs.Prelude.{ℕ, ◌+◌, ◌-◌, List, [], ◌∷◌, ◌++◌, Option, Some, None, Result, Ok, Err}
-use Rattle.std.specs.Prelude.{if◌then◌else◌, nat_lt, map, fold, option_map}
+use Rattle.std.specs.Prelude.{if◌then◌else◌, nat_lt, fold, option_map}
 use Rattle.std.specs.Option.{option_map_or, option_or, unwrap_or}
-use Rattle.feed_xml.specs.declared.position.Position.{Position}
+use Rattle.std.specs.Prelude.{⊤}
 use Rattle.onix_records.specs.declared.row.Opening.{Opening}
 use Rattle.feed_mapping.specs.Elements.{Composite}
-use Rattle.feed_mapping.specs.Notes.{Note, note, wrong}
+use Rattle.feed_mapping.specs.Notes.{Reason, wrong}
 use Rattle.feed_mapping.specs.ProductRecords.{Variant, variants}
-use Rattle.feed_mapping.specs.Products.{reference_in}
 use Rattle.feed_mapping.specs.Records.{Fields, Records}
 use Rattle.feed_mapping.specs.SupplyChoices.{SupplyChoices}
 use Rattle.feed_mapping.specs.declared.notes.Wrong.TheVariants.{TooLarge}
@@ -20,16 +19,9 @@ use Rattle.feed_conversion.specs.declared.refusal.Refusal.TheVariants as why
 use Rattle.feed_conversion.specs.declared.tally.Counted.{Counted}
 use Rattle.feed_conversion.specs.declared.tally.Tally.{Tally}
 
--- a note, and the RecordReference of the product that it is on
-pub record ProductNote : Type 0 where
-  pub reference : List ℕ
-  pub note : Note
-
--- what comes of a message: the texts of its parts, and the notes on what is left out, each in
--- order, and what is told of its products
+-- what comes of a message: the texts of its parts, in order, and what is told of its products
 pub record Converted : Type 0 where
   pub parts : List (List ℕ)
-  pub notes : List ProductNote
   pub counted : Counted
 
 -- What holds for all parts of a message: the record with which the part behind so many begins and
@@ -44,19 +36,18 @@ pub record Settings : Type 0 where
 
 -- What the products so far have come to: how many parts are full, the records of products in the
 -- part behind them, the place of the first product for which there is no part, the texts of the
--- full parts, the notes, and what is counted of the products.
+-- full parts, and what is counted of the products.
 pub record Packing : Type 0 where
   pub full : ℕ
   pub begun : Records
-  pub beyond : Option Position
+  pub beyond : Option ⊤
   pub parts : List (List ℕ)
-  pub notes : List ProductNote
   pub tally : Tally
 
 -- before the first product
 abbrev pub no_packing : Packing
 no_packing =
-    record { full = 0; begun = []; beyond = None; parts = []; notes = []; tally = no_tally }
+    record { full = 0; begun = []; beyond = None; parts = []; tally = no_tally }
 
 -- ---- packing
 
@@ -66,20 +57,13 @@ with_part most full text parts = if nat_lt full most then parts ++ text ∷ [] e
 
 -- the place of the first product for which there is no part, where a product at this place begins
 -- the part behind so many
-abbrev pub beyond_at : ℕ → ℕ → Option Position → Position → Option Position
+abbrev pub beyond_at : ℕ → ℕ → Option ⊤ → ⊤ → Option ⊤
 beyond_at most full earlier place =
     option_or earlier (if nat_lt full most then None else Some place)
 
--- notes on a product of this reference
-abbrev pub product_notes : List ℕ → List Note → List ProductNote
-product_notes reference notes = map (λ n. record { reference = reference; note = n }) notes
-
 -- with one more product, which has these notes
-abbrev pub noted : Composite → List Note → Packing → Packing
-noted c notes w = record w {
-  notes = w.notes ++ product_notes (reference_in c.below) notes;
-  tally = tallied w.tally c notes;
-}
+abbrev pub noted : Composite → List Reason → Packing → Packing
+noted c notes w = record w { tally = tallied w.tally c notes }
 
 module _ (t : Settings) (w : Packing) where
   -- the texts, with that of the part that was begun
@@ -87,7 +71,7 @@ module _ (t : Settings) (w : Packing) where
   with_begun = with_part t.most w.full (message_text (t.first w.full) w.begun) w.parts
 
   -- a product in the next part
-  abbrev pub in_next_part : Position → Records → Packing
+  abbrev pub in_next_part : ⊤ → Records → Packing
   in_next_part place records = record w {
     full = w.full + 1;
     begun = records;
@@ -97,7 +81,7 @@ module _ (t : Settings) (w : Packing) where
 
   -- records of a product at this place go into the part that was begun where that has room, else
   -- into the next; nothing, where that has no room for them either
-  abbrev pub packed : Position → Records → Option Packing
+  abbrev pub packed : ⊤ → Records → Option Packing
   packed place records =
       if fits (t.first w.full) (w.begun ++ records)
       then Some (record w { begun = w.begun ++ records })
@@ -109,7 +93,7 @@ module _ (t : Settings) (w : Packing) where
   -- a product by the first of these variants that is not too large for a message; without one it is
   -- left out
   abbrev pub with_variants : Composite → List Variant → Packing
-  with_variants c [] = noted c (note c.element (wrong TooLarge []) ∷ []) w
+  with_variants c [] = noted c (wrong TooLarge [] ∷ []) w
   with_variants c (v ∷ more) =
       unwrap_or (option_map (noted c v.notes) (packed (place_of c) v.records))
       (with_variants c more)
@@ -126,7 +110,7 @@ module _ (t : Settings) (w : Packing) where
   ended =
       option_map_or Err (refused_for t.allowed w.tally)
       (option_map_or (λ place. Err (why.Parts (w.full + 1) place)) w.beyond
-      (Ok (record { parts = all_parts; notes = w.notes; counted = counted w.tally })))
+      (Ok (record { parts = all_parts; counted = counted w.tally })))
 
 -- with the suppliers of one more product
 abbrev pub seen : Settings → Packing → Composite → Packing
@@ -134,7 +118,7 @@ seen t w c = record w { tally = with_suppliers t.supplies.supplier c.below w.tal
 
 -- after one more product
 abbrev pub after_product : Settings → Packing → Composite → Packing
-after_product t w c = with_variants t (seen t w c) c (variants t.opening t.supplies c)
+after_product t w c = with_variants t (seen t w c) c (variants t.opening t.supplies c.below)
 
 -- the products in order
 abbrev pub after_products : Settings → Packing → List Composite → Packing

@@ -1,18 +1,17 @@
 -- The parts that come of a message, and what has become of each of its products.
-use Rattle.std.specs.Prelude.{◌≡◌, ◌⊎◌, ◌≤◌, ℕ, ◌+◌, ◌-◌, Bool, true, false, List, [], ◌∷◌, ◌++◌, ⊤}
+use Rattle.std.specs.Prelude.{◌≡◌, ◌⊎◌, ◌≤◌, ℕ, ◌+◌, ◌-◌, Bool, false, List, [], ◌∷◌, ◌++◌, ⊤}
 use Rattle.std.specs.Prelude.{Option, Some, None, Ok, count_by, map, length}
-use Rattle.std.specs.List.{AllByRecursion, Contains, flat_map}
+use Rattle.std.specs.List.{AllByRecursion, flat_map}
 use Rattle.feed_outline.specs.Nodes.{Nodes}
 use Rattle.feed_mapping.specs.Elements.{Composite}
 use Rattle.feed_mapping.specs.Header.{Heading, heading_in}
-use Rattle.feed_mapping.specs.Notes.{Note, note, wrong}
+use Rattle.feed_mapping.specs.Notes.{Reason, wrong}
 use Rattle.feed_mapping.specs.ProductRecords.{Variant, variants}
-use Rattle.feed_mapping.specs.Products.{reference_in}
 use Rattle.feed_mapping.specs.Rows.{references_of}
 use Rattle.feed_mapping.specs.declared.notes.Wrong.TheVariants.{TooLarge}
 use Rattle.feed_conversion.specs.Conversion.{Options, header_in, products_in, settings}
 use Rattle.feed_conversion.specs.Messages.{empty_messages, fits, message_text}
-use Rattle.feed_conversion.specs.Packing.{Converted, ProductNote, Settings, product_notes}
+use Rattle.feed_conversion.specs.Packing.{Converted, Settings}
 use Rattle.feed_conversion.specs.Taken.{AreTaken}
 use Rattle.feed_conversion.specs.Tallies.{counts_wrong}
 
@@ -38,12 +37,9 @@ abbrev pub placed_of : Placing → List Placed
 placed_of f = placed_by f.variant f.product
 
 -- the notes on a product: those of its variant, and of one that is in no part that it is too large
-abbrev pub notes_by : Option Variant → Composite → List Note
-notes_by None c = note c.element (wrong TooLarge []) ∷ []
-notes_by (Some f) c = f.notes
-
-abbrev pub placing_notes : Placing → List ProductNote
-placing_notes f = product_notes (reference_in f.product.below) (notes_by f.variant f.product)
+abbrev pub notes_by : Option Variant → List Reason
+notes_by None = wrong TooLarge [] ∷ []
+notes_by (Some f) = f.notes
 
 -- of some variants this is the first that is not too large for the part behind so many by itself
 abbrev pub IsFirst : Settings → ℕ → Option Variant → List Variant → Type 0
@@ -56,17 +52,11 @@ IsFirst t before variant (f ∷ more) =
 abbrev pub IsRight : Settings → Placing → Type 0
 IsRight t f =
     (before : ℕ) × (before ≤ t.most)
-    × IsFirst t before f.variant (variants t.opening t.supplies f.product)
-
--- one of the variants of a product is not too large for any part that can be
-abbrev pub HasRoom : Settings → Composite → Type 0
-HasRoom t c =
-    (v : Variant) × Contains (variants t.opening t.supplies c) v
-    × ((before : ℕ) → before ≤ t.most → fits (t.first before) v.records ≡ true)
+    × IsFirst t before f.variant (variants t.opening t.supplies f.product.below)
 
 -- a product counts as a wrong one as it is placed
 abbrev pub is_placed_wrong : Placing → Bool
-is_placed_wrong f = counts_wrong (notes_by f.variant f.product)
+is_placed_wrong f = counts_wrong (notes_by f.variant)
 
 -- the records of a part behind its first one
 abbrev pub placed_records : List Placed → List (List (List ℕ))
@@ -96,10 +86,10 @@ abbrev pub references_in : List Placed → List (List ℕ)
 references_in part = flat_map (λ p. references_of p.product.below) part
 
 -- What came of the elements of a message: its products, each once and in order, stand in its parts,
--- one after the other and as many as there is room for, each in its right variant with the notes of
--- that, and as many of them are wrong as are counted. The parts that are left over have none. The
--- desk takes each part, the first as the message of the number in the heading and each later one as
--- that of the next, with just its products.
+-- one after the other and as many as there is room for, each in its right variant, and as many of
+-- them are wrong as are counted: one that is in no part is. The parts that are left over have none.
+-- The desk takes each part, the first as the message of the number in the heading and each later one
+-- as that of the next, with just its products.
 pub record AreParts (o : Options) (nodes : Nodes) (made : Converted) : Type 0 where
   pub header : Composite
   pub counts : header_in nodes ≡ Some header
@@ -108,7 +98,6 @@ pub record AreParts (o : Options) (nodes : Nodes) (made : Converted) : Type 0 wh
   pub placings : List Placing
   pub all : map (λ f. f.product) placings ≡ products_in nodes
   pub right : AllByRecursion (IsRight (settings o heading header.below)) placings
-  pub notes : flat_map placing_notes placings ≡ made.notes
   pub wrong : count_by is_placed_wrong placings ≡ made.counted.wrong
   pub parts : List (List Placed)
   pub stand : flat_map (λ p. p) parts ≡ flat_map placed_of placings

@@ -3,10 +3,10 @@ use Rattle.std.specs.Prelude.{ℕ, ◌+◌, ◌*◌, Bool, true, false, not, ◌
 use Rattle.std.specs.Prelude.{Option, Some, None, if◌then◌else◌, option_map}
 use Rattle.std.specs.List.{list_any}
 use Rattle.std.specs.Option.{option_or}
-use Rattle.feed_xml.specs.declared.position.Position.{Position}
+use Rattle.std.specs.Prelude.{⊤}
 use Rattle.feed_outline.specs.Nodes.{Nodes}
 use Rattle.feed_mapping.specs.Elements.{Composite}
-use Rattle.feed_mapping.specs.Notes.{Note, is_of_others as says_others}
+use Rattle.feed_mapping.specs.Notes.{Reason, is_of_others as says_others}
 use Rattle.feed_mapping.specs.Parties.{Pair}
 use Rattle.feed_mapping.specs.ProductRecords.{has_wrong}
 use Rattle.feed_mapping.specs.Products.{reference_in}
@@ -18,8 +18,8 @@ use Rattle.feed_conversion.specs.declared.refusal.Refusal.TheVariants as why
 use Rattle.feed_conversion.specs.declared.tally.Counted.{Counted}
 use Rattle.feed_conversion.specs.declared.tally.Tally.{Tally}
 
-abbrev pub place_of : Composite → Position
-place_of c = c.element.tag.place
+abbrev pub place_of : Composite → ⊤
+place_of c = tt
 
 -- before the first product
 abbrev pub no_tally : Tally
@@ -41,16 +41,16 @@ with_wrong t c = record t {
 }
 
 -- whether one of the notes on a product says that it is of other suppliers alone
-abbrev pub is_of_others : List Note → Bool
-is_of_others notes = list_any (λ n. says_others n.reason.kind) notes
+abbrev pub is_of_others : List Reason → Bool
+is_of_others notes = list_any (λ r. says_others r.kind) notes
 
 -- whether a product with these notes is wrong, and counts as one
-abbrev pub counts_wrong : List Note → Bool
+abbrev pub counts_wrong : List Reason → Bool
 counts_wrong notes = has_wrong notes && not (is_of_others notes)
 
 -- with one more that has these notes: it is wrong where one of them says so. One of other suppliers
 -- alone is none of those that are counted.
-abbrev pub tallied : Tally → Composite → List Note → Tally
+abbrev pub tallied : Tally → Composite → List Reason → Tally
 tallied t c notes =
     if is_of_others notes then record t { has_wrong_others = t.has_wrong_others || has_wrong notes }
     else (let next = if has_wrong notes then with_wrong t c else t in

@@ -1,4 +1,3 @@
 pub mod Stages
 pub mod StageViews
 pub mod Endings
-pub mod Whole

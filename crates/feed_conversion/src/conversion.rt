@@ -18,7 +18,6 @@ use crate::tally::{Counted, refused_for};
 use crate::target::Target;
 use crate::words::{DeskWords, TermsWords, Words};
 use feed_outline::{RefusalHints, Stopped, outlines_tell, read_message};
-use feed_xml::Position;
 use std::alloc::{AllocError, Global};
 use std::io::Read;
 use std::marker::PhantomData;
@@ -38,9 +37,8 @@ fn hand_empty<T: Target>(
     before: u32,
     target: &mut T,
 ) -> Result<(), AllocError>
-    ensures parts { OnOk result (T.parts target.new ≡ fold T.keeping.with_part
+    ensures { OnOk result (T.parts target.new ≡ fold T.with_part
         (T.parts target.old) (empty_parts (begun_view begun.now) before (most - before))) }
-    ensures notes { OnOk result (T.notes target.new ≡ T.notes target.old) }
 {
     let mut before = before;
     while before < most {
@@ -58,10 +56,9 @@ fn hand_rest<T: Target>(
     begun: &mut OpenParts,
     target: &mut T,
 ) -> Result<(), AllocError>
-    ensures parts { OnOk result (T.parts target.new
-        ≡ all_parts T.keeping most
-        (stored (begun_view begun.old) (T.parts target.old) (T.notes target.old))) }
-    ensures notes { OnOk result (T.notes target.new ≡ T.notes target.old) }
+    ensures { OnOk result (T.parts target.new
+        ≡ all_parts T.with_part most
+        (stored (begun_view begun.old) (T.parts target.old))) }
 {
     let Some(next) = begun.full.checked_add(1) else {
         return Err(AllocError);
@@ -84,14 +81,14 @@ fn end_parts<T: Target>(
     begun: &mut OpenParts,
     target: &mut T,
 ) -> Result<Counted, Fault>
-    ensures { Ends result (T.parts target.new) (T.notes target.new) (ended_at T.keeping most
-        (stored (begun_view begun.old) (T.parts target.old) (T.notes target.old))
+    ensures { Ends result (T.parts target.new) (ended_at T.with_part most
+        (stored (begun_view begun.old) (T.parts target.old))
         begun.old.beyond) }
 {
     let counted = begun.tally.counted();
-    if let Some(place) = begun.beyond {
+    if let Some(place) = &begun.beyond {
         return match begun.full.checked_add(1) {
-            Some(needed) => Err(Fault::Refused(Refusal::Parts(needed, place))),
+            Some(needed) => Err(Fault::Refused(Refusal::Parts(needed, place.copied()))),
             None => Err(Fault::Memory),
         };
     }
@@ -108,9 +105,9 @@ fn end<T: Target>(
     begun: &mut OpenParts,
     target: &mut T,
 ) -> Result<Counted, Fault>
-    ensures { Ends result (T.parts target.new) (T.notes target.new)
-        (ended T.keeping (options_view options.now)
-        (stored (begun_view begun.old) (T.parts target.old) (T.notes target.old))) }
+    ensures { Ends result (T.parts target.new)
+        (ended T.with_part (options_view options.now)
+        (stored (begun_view begun.old) (T.parts target.old))) }
 {
     match refused_for(alloc, options.wrong, &begun.tally) {
         Ok(None) => end_parts(alloc, options.choices.parts, begun, target),
@@ -121,8 +118,8 @@ fn end<T: Target>(
 
 // Ends a message.
 fn finish<T: Target + Drop>(converter: Converter<'_, T>) -> Outcome<T>
-    ensures { Ends result.ended (T.parts result.target) (T.notes result.target)
-        (finished T.keeping converter.entry) }
+    ensures { Ends result.ended (T.parts result.target)
+        (finished T.with_part converter.entry) }
 {
     let Converter {
         alloc,
@@ -139,17 +136,12 @@ fn finish<T: Target + Drop>(converter: Converter<'_, T>) -> Outcome<T>
 }
 
 // What has come of a feed that was not read.
-fn unread<T: Target + Drop>(
-    target: T,
-    fault: feed_outline::Fault,
-    place: Position,
-    told: RefusalHints,
-) -> Outcome<T>
-    ensures { IsUnread result.ended fault place }
+fn unread<T: Target + Drop>(target: T, fault: feed_outline::Fault, told: RefusalHints) -> Outcome<T>
+    ensures { IsUnread result.ended fault }
 {
     let ended = match fault {
         feed_outline::Fault::Document(feed_xml::Fault::Memory) => Err(Fault::Memory),
-        fault => Err(Fault::Unread(fault, place, told)),
+        fault => Err(Fault::Unread(fault, told)),
     };
     Outcome { target, ended }
 }
@@ -160,29 +152,24 @@ fn convert_by<R: Read, T: Target + Drop, W: Words + Drop>(
     reader: &mut R,
     converter: Converter<'_, T>,
 ) -> Outcome<T>
-    ensures { (o : Chosen) (parts : T.Parts) (notes : T.Notes)
-        → vocabulary_by o.terms ≡ W.words → converter.entry ≡ first_state o parts notes
-        → Comes T.keeping (R.remaining reader.old) o (taken parts notes (counted no_tally))
-        result.ended (T.parts result.target) (T.notes result.target) }
+    ensures { (o : Chosen) (parts : T.Parts)
+        → vocabulary_by o.terms ≡ W.words → converter.entry ≡ first_state o parts
+        → Comes T.with_part (R.remaining reader.old) o (taken parts (counted no_tally))
+        result.ended (T.parts result.target) }
 {
     outlines_tell();
     let words: PhantomData<W> = PhantomData;
     match read_message(alloc, reader, WordConverter { converter, words }) {
         Ok(taker) => finish(taker.converter),
         Err(stopped) => {
-            let Stopped {
-                fault,
-                place,
-                taker,
-                told,
-            } = stopped;
-            unread(taker.converter.into_target(), fault, place, told)
+            let Stopped { fault, taker, told } = stopped;
+            unread(taker.converter.into_target(), fault, told)
         }
     }
 }
 
 /// Reads a feed, and hands to the target the texts of the messages that come of it, and the notes
-/// on what is left out. With an error the target may have taken some of them. What is refused is
+/// on what is left out, of which no clause says more. With an error the target may have taken some of them. What is refused is
 /// read to its end all the same, so that a fault of its form goes before.
 pub fn convert<'a, R: Read, T: Target + Drop>(
     alloc: Global,
@@ -193,8 +180,7 @@ pub fn convert<'a, R: Read, T: Target + Drop>(
     ensures converted { IfOk result.ended (λ told. (made : Converted)
         × Yields (R.remaining reader.old) (options_view options.now) (Ok made)
         × (told ≡ made.counted)
-        × (T.parts result.target ≡ fold T.keeping.with_part (T.parts target) made.parts)
-        × (T.notes result.target ≡ fold T.keeping.with_note (T.notes target) made.notes)) }
+        × (T.parts result.target ≡ fold T.with_part (T.parts target) made.parts)) }
     ensures fault { IfErr result.ended
         (λ e. ExplainsFault (R.remaining reader.old) (options_view options.now) e) }
 {

@@ -44,9 +44,9 @@ impl<'a, T: Target> Model for Converter<'a, T> {
     ghost use Rattle.feed_conversion.specs.private.Stages.{State};
     ghost use Rattle.feed_conversion.specs.private.StageViews.{state};
 
-    ghost Value = { State T.Parts T.Notes };
+    ghost Value = { State T.Parts };
 
-    ghost view = { λ c. state c.options.now (T.parts c.target) (T.notes c.target) c.stage };
+    ghost view = { λ c. state c.options.now (T.parts c.target) c.stage };
 }
 
 // Counts a product with these notes, and hands it on with its records.
@@ -59,9 +59,9 @@ fn note_product<T: Target>(
     notes: &[Note<'_>],
 ) -> Result<(), AllocError>
     ensures { OnOk result
-        (stored (begun_view begun.new) (T.parts target.new) (T.notes target.new)
-        ≡ noted T.keeping product.now (note_views notes.now)
-        (stored (begun_view begun.old) (T.parts target.old) (T.notes target.old))) }
+        (stored (begun_view begun.new) (T.parts target.new)
+        ≡ noted product.now (note_views notes.now)
+        (stored (begun_view begun.old) (T.parts target.old))) }
 {
     count_product(alloc, &mut begun.tally, product, notes)?;
     target.product(product, records, notes)
@@ -79,13 +79,13 @@ fn keep_variant<T: Target>(
     notes: &[Note<'_>],
 ) -> Result<bool, AllocError>
     ensures { IfOk result (λ is. IsKept is
-        (stored (begun_view begun.old) (T.parts target.old) (T.notes target.old))
-        (stored (begun_view begun.new) (T.parts target.new) (T.notes target.new))
-        (with_variant T.keeping most
-        (stored (begun_view begun.old) (T.parts target.old) (T.notes target.old))
+        (stored (begun_view begun.old) (T.parts target.old))
+        (stored (begun_view begun.new) (T.parts target.new))
+        (with_variant T.with_part most
+        (stored (begun_view begun.old) (T.parts target.old))
         product.now records.now (note_views notes.now))) }
 {
-    let is_kept = keep(alloc, most, begun, target, product.line.place, records)?;
+    let is_kept = keep(alloc, most, begun, target, &product.line.place, records)?;
     if is_kept {
         note_product(alloc, begun, target, product, records, notes)?;
     }
@@ -100,9 +100,9 @@ fn leave_out<T: Target>(
     product: &Composite<'_>,
 ) -> Result<(), AllocError>
     ensures { (most : ℕ) → OnOk result
-        (stored (begun_view begun.new) (T.parts target.new) (T.notes target.new)
-        ≡ with_variants T.keeping most
-        (stored (begun_view begun.old) (T.parts target.old) (T.notes target.old)) product.now []) }
+        (stored (begun_view begun.new) (T.parts target.new)
+        ≡ with_variants T.with_part most
+        (stored (begun_view begun.old) (T.parts target.old)) product.now []) }
 {
     let kind = ReasonKind::Wrong(Wrong::TooLarge);
     let line = product.line;
@@ -114,7 +114,11 @@ fn leave_out<T: Target>(
         target,
         product,
         &none,
-        &[Note { line, reason }],
+        &[Note {
+            line,
+            reason,
+            is_aside: false,
+        }],
     )
 }
 
@@ -128,9 +132,9 @@ fn add_smallest<T: Target>(
     notes: &[Note<'_>],
 ) -> Result<(), AllocError>
     ensures { OnOk result
-        (stored (begun_view begun.new) (T.parts target.new) (T.notes target.new)
-        ≡ with_variants T.keeping most
-        (stored (begun_view begun.old) (T.parts target.old) (T.notes target.old))
+        (stored (begun_view begun.new) (T.parts target.new)
+        ≡ with_variants T.with_part most
+        (stored (begun_view begun.old) (T.parts target.old))
         product.now (smallest_variant product.now.below (note_views notes.now) ∷ [])) }
 {
     let mut fields = FieldBuffer::new(alloc);
@@ -154,10 +158,10 @@ fn add_smaller<T: Target>(
     notes: &[Note<'_>],
 ) -> Result<(), AllocError>
     ensures { OnOk result
-        (stored (begun_view begun.new) (T.parts target.new) (T.notes target.new)
-        ≡ with_variants T.keeping most
-        (stored (begun_view begun.old) (T.parts target.old) (T.notes target.old))
-        product.now (smaller_variants fate (note_views notes.now) product.now)) }
+        (stored (begun_view begun.new) (T.parts target.new)
+        ≡ with_variants T.with_part most
+        (stored (begun_view begun.old) (T.parts target.old))
+        product.now (smaller_variants fate (note_views notes.now) product.now.below)) }
 {
     match fate {
         Fate::Written => {
@@ -199,9 +203,9 @@ fn add<T: Target>(
     product: &Composite<'_>,
 ) -> Result<(), AllocError>
     ensures { OnOk result
-        (stored (begun_view begun.new) (T.parts target.new) (T.notes target.new)
-        ≡ after_product T.keeping (options_view options.now)
-        (stored (begun_view begun.old) (T.parts target.old) (T.notes target.old)) product.now) }
+        (stored (begun_view begun.new) (T.parts target.new)
+        ≡ after_product T.with_part (options_view options.now)
+        (stored (begun_view begun.old) (T.parts target.old)) product.now) }
 {
     let mut fields = FieldBuffer::new(alloc);
     let mut records = RecordBuffer::new(alloc);
@@ -274,7 +278,7 @@ fn begin<'a>(
         → IfOk result (λ s. stage_view s ≡ stage_after_header unbegun o header.now) }
 {
     if has_stranger(&header.below) {
-        let place = header.line.place;
+        let place = header.line.place.copied();
         return Ok(Stage::Refused(Refusal::OtherNamespace(place)));
     }
     begin_own(alloc, choices, header)
@@ -299,7 +303,7 @@ fn begin_own<'a>(
         Err(HeaderFault::Refused(refusal)) => {
             let number = text_or_empty(b"MessageNumber", &header.below);
             let number = Items::from_vec(Vec::from_slice(alloc, number)?);
-            Ok(Stage::Refused(Refusal::Header(refusal, number, header.line.place)))
+            Ok(Stage::Refused(Refusal::Header(refusal, number, header.line.place.copied())))
         }
         Err(HeaderFault::Memory) => Err(AllocError),
     }
@@ -309,7 +313,7 @@ impl<'a, T: Target + Drop> Converter<'a, T> {
     /// Before the Header.
     pub(crate) fn new(alloc: Global, options: &'a Options<'a>, target: T) -> Converter<'a, T>
         ensures { result
-            ≡ first_state (options_view options.now) (T.parts target) (T.notes target) }
+            ≡ first_state (options_view options.now) (T.parts target) }
     {
         Converter {
             alloc,
@@ -344,7 +348,7 @@ impl<'a, T: Target + Drop> Converter<'a, T> {
             }
             Stage::Refused(_) => Ok(()),
             Stage::Within(_) => {
-                let place = header.line.place;
+                let place = header.line.place.copied();
                 self.set_stage(Stage::Refused(Refusal::SecondHeader(place)));
                 Ok(())
             }
@@ -355,7 +359,7 @@ impl<'a, T: Target + Drop> Converter<'a, T> {
     fn take_stranger(&mut self, element: &Composite<'_>)
         ensures { self.new ≡ at_stage self.old (stage_after_stranger self.old.stage element.now) }
     {
-        let place = element.line.place;
+        let place = element.line.place.copied();
         match &self.stage {
             Stage::Refused(_) => {}
             Stage::Unbegun => self.set_stage(Stage::Refused(Refusal::OtherNamespace(place))),
@@ -366,11 +370,11 @@ impl<'a, T: Target + Drop> Converter<'a, T> {
     // Takes a Product.
     fn take_product(&mut self, product: &Composite<'_>) -> Result<(), AllocError>
         ensures { OnOk result
-            (self.new ≡ with_product T.keeping self.old.stage self.old product.now) }
+            (self.new ≡ with_product T.with_part self.old.stage self.old product.now) }
     {
         match &mut self.stage {
             Stage::Unbegun => {
-                let place = Some(product.line.place);
+                let place = Some(product.line.place.copied());
                 self.set_stage(Stage::Refused(Refusal::NoHeader(place)));
                 Ok(())
             }
@@ -384,7 +388,7 @@ impl<'a, T: Target + Drop> Converter<'a, T> {
 
     // Takes an element.
     fn take_element(&mut self, element: &Composite<'_>) -> Result<(), AllocError>
-        ensures { OnOk result (self.new ≡ after_element T.keeping self.old element.now) }
+        ensures { OnOk result (self.new ≡ after_element T.with_part self.old element.now) }
     {
         if element.line.name == b"Header".as_slice() {
             self.target.notice(element);
@@ -412,7 +416,7 @@ pub(crate) struct WordConverter<'a, T: Target, W> {
 impl<'a, T: Target, W> Model for WordConverter<'a, T, W> {
     ghost use Rattle.feed_conversion.specs.private.Stages.{State};
 
-    ghost Value = { State T.Parts T.Notes };
+    ghost Value = { State T.Parts };
 
     ghost view = { λ c. c.converter };
 }
@@ -424,7 +428,7 @@ impl<'a, T: Target + Drop, W: Words> Taker for WordConverter<'a, T, W> {
 
     ghost vocabulary = { W.words };
 
-    ghost after = { λ s lines. after_nodes T.keeping s (outlined lines) };
+    ghost after = { λ s lines. after_nodes T.with_part s (outlined lines) };
 
     fn vocabulary() -> Vocabulary
         ensures { vocabulary_view result ≡ W.words }

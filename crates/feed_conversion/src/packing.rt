@@ -117,12 +117,18 @@ fn grow(begun: &mut OpenParts, more: usize, text: &str) -> Result<(), AllocError
 }
 
 // The place of the first product for which there is no part.
-fn beyond_at(most: u32, full: u32, earlier: Option<Position>, place: Position) -> Option<Position>
-    ensures { result ≡ beyond_at most full earlier place }
+fn beyond_at(most: u32, full: u32, earlier: &Option<Position>, place: &Position) -> Option<Position>
+    ensures { result ≡ beyond_at most full earlier.now place.now }
 {
     match earlier {
-        Some(earlier) => Some(earlier),
-        None => { if full < most { None } else { Some(place) } }
+        Some(earlier) => Some(earlier.copied()),
+        None => {
+            if full < most {
+                None
+            } else {
+                Some(place.copied())
+            }
+        }
     }
 }
 
@@ -136,9 +142,8 @@ pub(crate) fn hand_on<T: Target>(
     text: &mut Vec<u8>,
     target: &mut T,
 ) -> Result<(), AllocError>
-    ensures parts { OnOk result (T.parts target.new
-        ≡ with_part T.keeping most full (text.old.items ++ end_text count) (T.parts target.old)) }
-    ensures notes { OnOk result (T.notes target.new ≡ T.notes target.old) }
+    ensures { OnOk result (T.parts target.new
+        ≡ with_part T.with_part most full (text.old.items ++ end_text count) (T.parts target.old)) }
 {
     if full >= most {
         return Ok(());
@@ -153,13 +158,13 @@ fn turn(
     begun: &mut OpenParts,
     most: u32,
     first: &str,
-    place: Position,
+    place: &Position,
     more: usize,
     text: &str,
 ) -> Result<(), AllocError>
     ensures { first.now ≡ first_text (begun_view begun.old) (begun.old.full + 1)
         → OnOk result (begun_view begun.new
-        ≡ in_next_part most (begun_view begun.old) place more text.now) }
+        ≡ in_next_part most (begun_view begun.old) place.now more text.now) }
 {
     let Some(full) = begun.full.checked_add(1) else {
         return Err(AllocError);
@@ -167,7 +172,7 @@ fn turn(
     let Some(count) = 1_usize.checked_add(more) else {
         return Err(AllocError);
     };
-    begun.beyond = beyond_at(most, full, begun.beyond, place);
+    begun.beyond = beyond_at(most, full, &begun.beyond, place);
     begun.full = full;
     begun.count = count;
     begun.text.clear();
@@ -184,16 +189,16 @@ fn keep_text<T: Target>(
     most: u32,
     begun: &mut OpenParts,
     target: &mut T,
-    place: Position,
+    place: &Position,
     more: usize,
     text: &str,
 ) -> Result<bool, AllocError>
     ensures { IfOk result (λ is. IsKept is
-        (stored (begun_view begun.old) (T.parts target.old) (T.notes target.old))
-        (stored (begun_view begun.new) (T.parts target.new) (T.notes target.new))
-        (kept T.keeping most
-        (stored (begun_view begun.old) (T.parts target.old) (T.notes target.old))
-        place more text.now)) }
+        (stored (begun_view begun.old) (T.parts target.old))
+        (stored (begun_view begun.new) (T.parts target.new))
+        (kept T.with_part most
+        (stored (begun_view begun.old) (T.parts target.old))
+        place.now more text.now)) }
 {
     if has_room(alloc, begun.count, begun.text.len(), more, text.len())? {
         grow(begun, more, text)?;
@@ -225,15 +230,15 @@ pub(crate) fn keep<T: Target>(
     most: u32,
     begun: &mut OpenParts,
     target: &mut T,
-    place: Position,
+    place: &Position,
     records: &RecordBuffer,
 ) -> Result<bool, AllocError>
     ensures { IfOk result (λ is. IsKept is
-        (stored (begun_view begun.old) (T.parts target.old) (T.notes target.old))
-        (stored (begun_view begun.new) (T.parts target.new) (T.notes target.new))
-        (kept T.keeping most
-        (stored (begun_view begun.old) (T.parts target.old) (T.notes target.old))
-        place (length records.now) (records_text records.now))) }
+        (stored (begun_view begun.old) (T.parts target.old))
+        (stored (begun_view begun.new) (T.parts target.new))
+        (kept T.with_part most
+        (stored (begun_view begun.old) (T.parts target.old))
+        place.now (length records.now) (records_text records.now))) }
 {
     let text = write_records(alloc, &records.as_records())?;
     keep_text(alloc, most, begun, target, place, records.len(), &text)

@@ -28,8 +28,8 @@ pub enum Refusal {
 /// Why no messages come of a feed.
 #[derive(Debug, Drop)]
 pub enum Fault {
-    /// It was not read: why, where reading stopped, and what was told until then.
-    Unread(feed_outline::Fault, Position, RefusalHints),
+    /// It was not read: why, and what was told until then.
+    Unread(feed_outline::Fault, RefusalHints),
     /// It is refused.
     Refused(Refusal),
     /// Memory ran out, or the target took no more.

@@ -102,7 +102,7 @@ fn has_wrong(notes: &[Note<'_>]) -> bool
 {
     let mut rest = notes;
     while let [note, tail @ ..] = rest {
-        if note.reason.kind.is_wrong() {
+        if !note.is_aside && note.reason.kind.is_wrong() {
             return true;
         }
         rest = tail;
@@ -116,7 +116,7 @@ fn is_of_others(notes: &[Note<'_>]) -> bool
 {
     let mut rest = notes;
     while let [note, tail @ ..] = rest {
-        if note.reason.kind.is_of_others() {
+        if !note.is_aside && note.reason.kind.is_of_others() {
             return true;
         }
         rest = tail;
@@ -136,7 +136,7 @@ fn count_wrong(alloc: Global, tally: &mut Tally, product: &Composite<'_>) -> Res
         let reference = text_or_empty(b"RecordReference", &product.below);
         tally.first = Some(WrongProduct {
             reference: Items::from_vec(Vec::from_slice(alloc, reference)?),
-            place: product.line.place,
+            place: product.line.place.copied(),
         });
     }
     Ok(())
@@ -195,5 +195,5 @@ pub(crate) fn refused_for(
         return Ok(None);
     };
     let reference = Items::from_vec(Vec::from_slice(alloc, first.reference.as_slice())?);
-    Ok(Some(Refusal::Wrong(tally.wrong, tally.products, reference, first.place)))
+    Ok(Some(Refusal::Wrong(tally.wrong, tally.products, reference, first.place.copied())))
 }

@@ -45,8 +45,7 @@ stopped_taken with_part o bytes before after e f (inr refused) explains = subst 
 
 -- a FILE that was read so
 pub read_taken : {T : Type 0} (with_part : T → List ℕ → T) (o : Options) (bytes : Option (List ℕ)) (before after : T) (r : Result Counted Fault) (e : Ended)
-    → IfOk r (λ told. (made : Converted) × Yields bytes o (Ok made) × (told ≡ made.counted) × (after ≡ fold with_part before made.parts)
-    × (◌≡◌ {A = Unit {0}} tt (fold (λ kept n. kept) tt made.notes)))
+    → IfOk r (λ told. (made : Converted) × Yields bytes o (Ok made) × (told ≡ made.counted) × (after ≡ fold with_part before made.parts))
     → IfErr r (λ f. ExplainsFault bytes o f)
     → IfOk r (λ told. IsOfCounted told e) → IfErr r (λ f. IsUnconverted f e)
     → IsTaken with_part o bytes before after e

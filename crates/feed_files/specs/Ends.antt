@@ -41,9 +41,9 @@ IsOfCounted told other = ⊥
 -- the fault is of what the bytes say: no read failed, memory did not run out, and nothing but the
 -- bytes was refused
 abbrev pub IsRefusal : Fault → Type 0
-IsRefusal (fault.Unread (unread.Document document.Read) place told) = ⊥
-IsRefusal (fault.Unread (unread.Document document.Memory) place told) = ⊥
-IsRefusal (fault.Unread (unread.Document document.Refused) place told) = ⊥
+IsRefusal (fault.Unread (unread.Document document.Read) told) = ⊥
+IsRefusal (fault.Unread (unread.Document document.Memory) told) = ⊥
+IsRefusal (fault.Unread (unread.Document document.Refused) told) = ⊥
 IsRefusal fault.Memory = ⊥
 IsRefusal other = ⊤
 

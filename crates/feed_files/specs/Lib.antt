@@ -1,4 +1,3 @@
-pub mod Kept
 pub mod Ends
 pub mod Runs
 pub mod Lines

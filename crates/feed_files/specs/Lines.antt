@@ -1,10 +1,8 @@
 -- What the lines on standard error say.
 use Rattle.std.specs.Prelude.{ℕ, Bool, ◌==◌, ◌++◌, List, if◌then◌else◌}
 use Rattle.std.specs.Prelude.{chars, codes, length, nat_eq, nat_lt, take}
-use Rattle.std.specs.Fmt.{decimal}
 use Rattle.std.specs.Str.Lossy.{utf8_lossy}
 use Rattle.std.specs.List.{after_first, before_first, position_or_len}
-use Rattle.feed_xml.specs.declared.position.Position.{Position}
 use Rattle.watched_output.specs.Shown.{shown}
 
 -- so many bytes of a text at most
@@ -26,9 +24,3 @@ filled words value =
     if nat_lt (position_or_len is_star words) (length words)
     then before_first is_star words ++ value_text value ++ after_first is_star words
     else words
-
--- the beginning of a line on what stands at a place of a FILE
-abbrev pub place_text : List ℕ → Position → List ℕ
-place_text file place =
-    codes "onixdesk: " ++ shown 100 (chars file) ++ codes ":" ++ decimal place.line ++ codes ":"
-    ++ decimal place.column ++ codes ": "

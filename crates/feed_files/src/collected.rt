@@ -20,17 +20,11 @@ pub struct Collected<'a, S> {
 }
 
 impl<'a, S: Store + Drop> Target for Collected<'a, S> {
-    ghost use Rattle.feed_files.specs.Kept.{keeping};
-
     type Parts = S::Texts;
 
-    type Notes = ();
-
-    ghost keeping = { keeping S.with_text };
+    ghost with_part = { S.with_text };
 
     ghost parts = { λ c. S.texts c.store };
-
-    ghost notes = { λ c. tt };
 
     fn part(&mut self, text: &[u8]) -> Result<(), AllocError> {
         match self.store.add(text) {

@@ -89,14 +89,14 @@ fn report_ended<E: Write>(
     ensures { IsUnconverted fault.now result }
 {
     match fault {
-        Fault::Unread(feed_outline::Fault::Document(feed_xml::Fault::Read), _, _) => {
+        Fault::Unread(feed_outline::Fault::Document(feed_xml::Fault::Read), _) => {
             report_unread(alloc, known, errors)
         }
-        Fault::Unread(feed_outline::Fault::Document(feed_xml::Fault::Memory), _, _) => {
+        Fault::Unread(feed_outline::Fault::Document(feed_xml::Fault::Memory), _) => {
             report_fault(alloc, &FileFault::Memory, errors)
         }
-        Fault::Unread(feed_outline::Fault::Document(feed_xml::Fault::Refused), _, _)
-        | Fault::Memory => report_fault(alloc, &FileFault::Memory, errors),
+        Fault::Unread(feed_outline::Fault::Document(feed_xml::Fault::Refused), _) | Fault::Memory =>
+            report_fault(alloc, &FileFault::Memory, errors),
         _ => report_refusal(alloc, known, fault, errors),
     }
 }

@@ -54,7 +54,7 @@ fn is_passed_over(named: Option<Pair<'_>>, element: &Node<'_>, is_deletion: bool
 // Whether one of the elements is the first of its name.
 fn is_first(line: &Line, elements: &Elements<'_>) -> bool {
     match first_composite(line.name, elements) {
-        Some(first) => first.line.place == line.place,
+        Some(first) => first.line.place.is_at(&line.place),
         None => true,
     }
 }
@@ -138,7 +138,7 @@ fn has_world_supply(named: Option<Pair<'_>>, product: &Elements<'_>, notes: &[No
         let is_left_out = is_supply_of_others(named, &supply.below)
             || notes
                 .iter()
-                .any(|note| note.line.place == supply.line.place);
+                .any(|note| note.line.place.is_at(&supply.line.place));
         if !is_left_out && first_composite(b"Market", &supply.below).is_none() {
             return true;
         }
@@ -181,7 +181,7 @@ pub(crate) fn is_of_others(notes: &[Note<'_>]) -> bool
 {
     let mut rest = notes;
     while let [note, tail @ ..] = rest {
-        if note.reason.kind.is_of_others() {
+        if !note.is_aside && note.reason.kind.is_of_others() {
             return true;
         }
         rest = tail;

@@ -1,8 +1,5 @@
 //! Notes on what is left out of the message of a FILE.
 
-ghost use Rattle.std.specs.Prelude.{◌≡◌, ◌++◌, OnOk, string_bytes};
-ghost use Rattle.feed_files.specs.Lines.{place_text};
-
 use crate::counts::{count_again, count_product, is_of_others};
 use crate::doublets::count_doublets;
 use crate::reasons::{Fate, Told, push_fate, told_of};
@@ -72,10 +69,11 @@ fn name_of_stranger(called: &[u8]) -> &[u8] {
 }
 
 /// Adds the beginning of a line on what stands at a place of a FILE.
-pub(crate) fn push_place(text: &mut String, file: &str, place: Position) -> Result<(), AllocError>
-    ensures { OnOk result
-        (string_bytes text.new ≡ string_bytes text.old ++ place_text file.now place) }
-{
+pub(crate) fn push_place(
+    text: &mut String,
+    file: &str,
+    place: &Position,
+) -> Result<(), AllocError> {
     text.push_str(PREFIX)?;
     push_shown(text, file, SHOWN)?;
     write!(text, ":{}:{}: ", place.line, place.column)
@@ -91,7 +89,7 @@ fn push_first_reason(
     let (choices, kind) = (&scope.options.choices, note.reason.kind);
     let mut rest = product.below.copy();
     while let Some((supply, behind)) = next_composite(b"ProductSupply", &rest) {
-        if supply.line.place == note.line.place {
+        if supply.line.place.is_at(&note.line.place) {
             let (supplier, id_type) = (choices.supplier, choices.id_type);
             let first = first_reason(scope.alloc, supplier, id_type, kind, &supply.below)?;
             if let Some(first) = first {
@@ -112,7 +110,7 @@ fn push_line<'a>(
     note: Note<'a>,
     told: &Told,
 ) -> Result<(), AllocError> {
-    push_place(text, scope.file, note.line.place)?;
+    push_place(text, scope.file, &note.line.place)?;
     push_value(text, text_or_empty(b"RecordReference", &product.below))?;
     text.push_str(": ")?;
     let value = match note.reason.kind {

@@ -115,7 +115,7 @@ fn of_refused<'a>(refusal: &'a Refusal, notes: &'a Notes<'_>) -> (Position, Word
     match refusal {
         Refusal::NoHeader(place) => {
             let place = match place {
-                Some(place) => *place,
+                Some(place) => place.copied(),
                 None => Position::first(),
             };
             (place, ("no Header before the first Product", NOTHING))
@@ -125,15 +125,15 @@ fn of_refused<'a>(refusal: &'a Refusal, notes: &'a Notes<'_>) -> (Position, Word
                 HeaderRefusal::Malformed => notes.header.as_bytes(),
                 _ => number.as_slice(),
             };
-            (*place, (of_header(*refusal), value))
+            (place.copied(), (of_header(*refusal), value))
         }
-        Refusal::SecondHeader(place) => (*place, ("a second Header", NOTHING)),
-        Refusal::OtherNamespace(place) => (*place, (STRANGER, notes.stranger.as_bytes())),
+        Refusal::SecondHeader(place) => (place.copied(), ("a second Header", NOTHING)),
+        Refusal::OtherNamespace(place) => (place.copied(), (STRANGER, notes.stranger.as_bytes())),
         Refusal::Wrong(_, _, reference, place) => {
             let words = " products wrong; --wrong all lets them through; the first: *";
-            (*place, (words, reference.as_slice()))
+            (place.copied(), (words, reference.as_slice()))
         }
-        Refusal::Parts(_, place) => (*place, (AGREED, NOTHING)),
+        Refusal::Parts(_, place) => (place.copied(), (AGREED, NOTHING)),
     }
 }
 
@@ -161,14 +161,14 @@ pub(crate) fn push_refusal(
     fault: &Fault,
 ) -> Result<(), AllocError> {
     let (place, (words, value)) = match fault {
-        Fault::Unread(fault, place, told) => (*place, of_unread(fault, told)),
+        Fault::Unread(fault, told) => (told.place.copied(), of_unread(fault, told)),
         Fault::Refused(refusal) => of_refused(refusal, known.notes),
         Fault::Memory => return Ok(()),
     };
     if let Fault::Refused(Refusal::Wrong(_, _, _, _)) = fault {
         line.push_str(known.notes.of_wrong.text.as_str())?;
     }
-    push_place(line, known.file, place)?;
+    push_place(line, known.file, &place)?;
     line.push_str("refused: ")?;
     if let Fault::Refused(refusal) = fault {
         push_numbers(line, refusal, known.options)?;
@@ -179,6 +179,6 @@ pub(crate) fn push_refusal(
 
 /// Adds the line of a FILE that is packed by its name.
 pub(crate) fn push_packed(line: &mut String, file: &str) -> Result<(), AllocError> {
-    push_place(line, file, Position::first())?;
+    push_place(line, file, &Position::first())?;
     line.push_str("refused: packed; gunzip -c or unzip -p unpacks it\n")
 }

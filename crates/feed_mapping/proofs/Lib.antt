@@ -13,7 +13,6 @@ pub mod ComputedRows
 pub mod SeenPrices
 pub mod RowLaws
 pub mod GivenPriceLaws
-pub mod NoTermLaws
 pub mod PriceFateLaws
 pub mod OpeningLaws
 pub mod PartLaws

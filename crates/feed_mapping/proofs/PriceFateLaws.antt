@@ -58,17 +58,17 @@ supply-has o choices nodes e = go (details_in choices nodes) refl (outcome_reaso
       notes = rw (d, m, r) refl;
     }
 
-pub product-has : (o : Opening) (choices : SupplyChoices) (c : Composite) → fate_of o choices c.below ≡ fate.Written → HasSupplies o choices c
-product-has o choices c e = go (is_field (reference_in c.below)) refl (own_reason choices.supplier c.below) refl (supplies_reason o choices (supplies_in c.below)) refl
+pub product-has : (o : Opening) (choices : SupplyChoices) (nodes : Nodes) → fate_of o choices nodes ≡ fate.Written → HasSupplies o choices nodes
+product-has o choices nodes e = go (is_field (reference_in nodes)) refl (own_reason choices.supplier nodes) refl (supplies_reason o choices (supplies_in nodes)) refl
   where
-    go : (stands : Bool) → is_field (reference_in c.below) ≡ stands → (own : Option Reason) → own_reason choices.supplier c.below ≡ own → (below : Option Reason) → supplies_reason o choices (supplies_in c.below) ≡ below → HasSupplies o choices c
+    go : (stands : Bool) → is_field (reference_in nodes) ≡ stands → (own : Option Reason) → own_reason choices.supplier nodes ≡ own → (below : Option Reason) → supplies_reason o choices (supplies_in nodes) ≡ below → HasSupplies o choices nodes
     go false f own w below b = let no' = rw f at e in absurd cc
     go true f (Some own) w below b = let no' = rw (f, w) at e in absurd cc
     go true f None w (Some below) b = let no' = rw (f, w, b) at e in absurd cc
     go true f None w None b = record {
-      own = product_record (notification_written choices.supplier c.below) (right_pairs c.below) c.below;
-      before = identifier_notes c.below;
-      behind = written_notes choices.supplier c.below c.element;
+      own = product_record (notification_written choices.supplier nodes) (right_pairs nodes) nodes;
+      before = identifier_notes nodes;
+      behind = written_notes choices.supplier nodes;
       records = rw (f, w, b) refl;
       notes = rw (f, w, b) refl;
     }

@@ -36,7 +36,7 @@ use Rattle.feed_mapping.specs.Details.{context_in, detail_fields, priced_records
 use Rattle.feed_mapping.specs.Elements.{Composite, each_at, first}
 use Rattle.feed_mapping.specs.Markets.{early_market_reasons, first_kept, kept_area, kept_fields, kept_outcome, market_reason, markets_outcome, supply_record, territories_of, union_fields}
 use Rattle.feed_mapping.proofs.MarketLaws.{joined_outcome}
-use Rattle.feed_mapping.specs.Notes.{Note, Reason, foreign, wrong}
+use Rattle.feed_mapping.specs.Notes.{Reason, foreign, wrong}
 use Rattle.feed_mapping.specs.Outcomes.{Outcome, all_records, left_out, nothing, outcome_reason, outcome_records, written_unless}
 use Rattle.feed_mapping.specs.ProductRecords.{is_alone, notification_written, variants, smaller_variants, fate_by, records_by, supplies_in, why_emptied}
 use Rattle.feed_mapping.specs.Products.{dropping, identifier_reason, identifiers_in, is_code, is_there, notification_in, or_reference, own_reason, pair_reason, product_record, reference_in, right_pair, right_pairs, type_of, value_of, value_written}
@@ -82,7 +82,7 @@ priced-rows laws o choices nodes may = go choices.terms may
           (is_held_back terms (supplier_of (supplier_id choices.preferred nodes)) (all_given (context_in o nodes) (prices_in nodes)) (closed_kinds (context_in o nodes) (prices_in nodes))) (prices_in nodes),
     )
 
-detail-rows : TermLaws → (o : Opening) (choices : SupplyChoices) (nodes : Nodes) → MayCompute o choices.terms → (notes : List Note) (kind : Option Reason) → detail_reason choices.preferred nodes ≡ kind
+detail-rows : TermLaws → (o : Opening) (choices : SupplyChoices) (nodes : Nodes) → MayCompute o choices.terms → (notes : List Reason) (kind : Option Reason) → detail_reason choices.preferred nodes ≡ kind
     → AreDetails o (outcome_records (written_unless kind ((codes "SupplyDetail" ∷ detail_fields choices.preferred nodes) ∷ priced_records o choices.terms choices.preferred nodes) notes))
 detail-rows laws o choices nodes may notes (Some kind) e = ([], no-rows o)
 detail-rows laws o choices nodes may notes None e =
@@ -164,12 +164,12 @@ held-market (m ∷ ms) a e = go (market_reason (area_in m.below)) refl (held-mar
 abbrev AreMarkets : Opening → Outcome → Type 0
 AreMarkets o markets = (fields : List (List ℕ)) × (outcome_records markets ≡ fields ∷ []) × IsSupply o fields
 
-joined-markets : (o : Opening) (made : Option (List (List ℕ))) (notes : List Note) → ((fields : List (List ℕ)) → made ≡ Some fields → IsSupply o (supply_record fields))
+joined-markets : (o : Opening) (made : Option (List (List ℕ))) (notes : List Reason) → ((fields : List (List ℕ)) → made ≡ Some fields → IsSupply o (supply_record fields))
     → outcome_reason (joined_outcome made notes) ≡ None → AreMarkets o (joined_outcome made notes)
 joined-markets o None notes each e = cc e
 joined-markets o (Some fields) notes each e = (supply_record fields, refl, each fields refl)
 
-held-markets : (o : Opening) (ms : List Composite) (foreign : Bool) (notes : List Note) (first : Option Area) → first_kept ms ≡ first → outcome_reason (kept_outcome first (territories_of ms) foreign notes) ≡ None
+held-markets : (o : Opening) (ms : List Composite) (foreign : Bool) (notes : List Reason) (first : Option Area) → first_kept ms ≡ first → outcome_reason (kept_outcome first (territories_of ms) foreign notes) ≡ None
     → AreMarkets o (kept_outcome first (territories_of ms) foreign notes)
 held-markets o ms foreign notes None is e = cc e
 held-markets o ms foreign notes (Some a) is e =
@@ -207,7 +207,7 @@ never-empty : (o : Opening) (fields : List (List ℕ)) (records : Records) (ds :
 never-empty o fields records [] reads none = let are = reads.are in cc are
 never-empty o fields records (d ∷ ds) reads none = cc none
 
-detailed-rows : TermLaws → (o : Opening) (choices : SupplyChoices) → MayCompute o choices.terms → (nodes : Nodes) (notes : List Note) (kind : Option Reason) → outcome_reason (supply_markets nodes) ≡ kind
+detailed-rows : TermLaws → (o : Opening) (choices : SupplyChoices) → MayCompute o choices.terms → (nodes : Nodes) (notes : List Reason) (kind : Option Reason) → outcome_reason (supply_markets nodes) ≡ kind
     → (below : Records) → all_records (detail_in o choices) (details_in choices nodes) ≡ below
     → AreSupplies o (outcome_records (written_unless (first_some (kind ∷ if_empty below (Some (wrong bad.NoDetailLeft [])) ∷ [])) (outcome_records (supply_markets nodes) ++ below) notes))
 detailed-rows laws o choices may nodes notes (Some kind) m below d = no-supplies o
@@ -411,28 +411,25 @@ none-rows : (o : Opening) → AreOf o [] []
 none-rows o = ([], refl, record { reads = refl; details = tt; utf8 = refl })
 
 -- the records of each form of a Product are the rows of a product of its reference
-pub product-rows : TermLaws → (o : Opening) (choices : SupplyChoices) (c : Composite) → MayCompute o choices.terms → AllByRecursion (λ f. AreOf o f.records (references_of c.below)) (variants o choices c)
-product-rows laws o choices c may = go (is_field (reference_in c.below)) refl
+pub product-rows : TermLaws → (o : Opening) (choices : SupplyChoices) (nodes : Nodes) → MayCompute o choices.terms → AllByRecursion (λ f. AreOf o f.records (references_of nodes)) (variants o choices nodes)
+product-rows laws o choices nodes may = go (is_field (reference_in nodes)) refl
   where
-    nodes : Nodes
-    nodes = c.below
-
     whole : IsField (reference_in nodes) → AreOf o (records_by o choices (why_emptied o choices nodes) nodes) (reference_in nodes ∷ [])
     whole f = own-rows laws o choices may nodes f (why_emptied o choices nodes) refl
 
-    standing : IsField (reference_in nodes) → (kind : Option Reason) (notes : List Note) → AllByRecursion (λ f. AreOf o f.records (reference_in nodes ∷ [])) (smaller_variants (fate_by kind) notes c)
+    standing : IsField (reference_in nodes) → (kind : Option Reason) (notes : List Reason) → AllByRecursion (λ f. AreOf o f.records (reference_in nodes ∷ [])) (smaller_variants (fate_by kind) notes nodes)
     standing f None notes = (emptied-rows o nodes f [] no-pairs, tt)
     standing f (Some kind) notes = (emptied-rows o nodes f [] no-pairs, tt)
 
-    go : (stands : Bool) → is_field (reference_in nodes) ≡ stands → AllByRecursion (λ f. AreOf o f.records (references_of nodes)) (variants o choices c)
+    go : (stands : Bool) → is_field (reference_in nodes) ≡ stands → AllByRecursion (λ f. AreOf o f.records (references_of nodes)) (variants o choices nodes)
     go true e =
         let f = field-is (reference_in nodes) e in
         let names : references_of nodes ≡ reference_in nodes ∷ [] = rw e refl in
-        subst (λ (rs : List (List ℕ)). AllByRecursion (λ f. AreOf o f.records rs) (variants o choices c)) (sym names)
+        subst (λ (rs : List (List ℕ)). AllByRecursion (λ f. AreOf o f.records rs) (variants o choices nodes)) (sym names)
         (rw e (whole f, standing f (why_emptied o choices nodes) _))
     go false e =
         let names : references_of nodes ≡ [] = rw e refl in
-        subst (λ (rs : List (List ℕ)). AllByRecursion (λ f. AreOf o f.records rs) (variants o choices c)) (sym names) (rw e (none-rows o, tt))
+        subst (λ (rs : List (List ℕ)). AllByRecursion (λ f. AreOf o f.records rs) (variants o choices nodes)) (sym names) (rw e (none-rows o, tt))
 
 -- products one after the other
 pub products-joined : (o : Opening) (a b : Records) (c d : List Product) → AreProducts o a c → AreProducts o b d → AreProducts o (a ++ b) (c ++ d)

@@ -1,18 +1,17 @@
 -- What is written of the Prices of a SupplyDetail fits what the terms see of them.
-use Rattle.std.proofs.Common.{◌≡◌, ◌≤◌, ◌<◌, ◌-◌, ◌∙◌, inl, inr, ℕ, true, List, [], ◌∷◌, ◌++◌, Option, Some, IfSome, length, length-append, map, slice_get, refl, sym, ap, subst, arith}
+use Rattle.std.proofs.Common.{◌≡◌, ◌≤◌, ◌<◌, ◌-◌, ◌∙◌, inl, inr, ℕ, true, List, [], ◌∷◌, ◌++◌, Option, Some, IfSome, length, length-append, slice_get, refl, sym, ap, subst, arith}
 use Rattle.std.specs.Prelude.{codes}
 use Rattle.std.specs.List.{list_all}
 use Rattle.std.specs.Str.{is_utf8}
 use Rattle.std.proofs.lemmas.List.{append-nil}
 use Rattle.onix_records.specs.declared.parts.Price.{Price}
 use Rattle.onix_records.specs.Price.{price_of}
-use Rattle.feed_terms.specs.HeldBack.{is_held_back}
-use Rattle.feed_terms.specs.WithTerms.{HavePrices, remarks_of, with_terms}
+use Rattle.feed_terms.specs.WithTerms.{HavePrices, with_terms}
 use Rattle.feed_terms.specs.declared.price.GivenPrice.{GivenPrice}
 use Rattle.feed_terms.specs.declared.price.Kind.{Kind}
 use Rattle.feed_terms.specs.declared.term.Term.{Term}
-use Rattle.feed_mapping.specs.Elements.{Composite, Element}
-use Rattle.feed_mapping.specs.Outcomes.{all_records, nothing, outcome_records, written}
+use Rattle.feed_mapping.specs.Elements.{Composite}
+use Rattle.feed_mapping.specs.Outcomes.{all_records, outcome_records}
 use Rattle.feed_mapping.specs.Prices.{PriceContext, written_fields, price_outcome}
 use Rattle.feed_mapping.specs.PriceTerms.{AreWritten, all_given, closed_kinds, given_in, given_of, outcome_in, records_with}
 use Rattle.feed_mapping.specs.Records.{Records, parsed}
@@ -62,8 +61,8 @@ module _ (context : PriceContext) (c : Composite) (old new : Records) (added : n
 
 -- ---- all Prices
 
-pub have-prices : (context : PriceContext) (cs : List Composite) (records : Records) (given : List GivenPrice) (elements : List Element) (closed : List Kind) → AreWritten context cs records given elements closed → HavePrices records given
-have-prices context cs records given elements closed w =
+pub have-prices : (context : PriceContext) (cs : List Composite) (records : Records) (given : List GivenPrice) (closed : List Kind) → AreWritten context cs records given closed → HavePrices records given
+have-prices context cs records given closed w =
     let fit = all-fit context cs in record {
       count = ap length w.records ∙ fit.0 ∙ sym (ap length w.given);
       fields = λ k l.
@@ -71,16 +70,9 @@ have-prices context cs records given elements closed w =
           (long-at (all_records (outcome_in context) cs) k fit.1 (subst (λ (rs : Records). k < length rs) w.records l));
     }
 
-module _ (terms : List Term) (supplier : Option (List ℕ)) (context : PriceContext) (cs : List Composite) (records : Records) (given : List GivenPrice) (elements : List Element) (closed : List Kind) (are : AreWritten context cs records given elements closed) where
+module _ (terms : List Term) (supplier : Option (List ℕ)) (context : PriceContext) (cs : List Composite) (records : Records) (given : List GivenPrice) (closed : List Kind) (are : AreWritten context cs records given closed) where
   -- the records with the terms are those that are defined
   pub records-are : with_terms terms supplier closed given records ≡ records_with terms supplier context cs
   records-are =
       ap (λ (k : List Kind). with_terms terms supplier k given records) are.closed ∙ ap (λ (g : List GivenPrice). with_terms terms supplier (closed_kinds context cs) g records) are.given
       ∙ ap (λ (rs : Records). with_terms terms supplier (closed_kinds context cs) (all_given context cs) rs) are.records
-
-  -- of each Price that the terms see one thing is said
-  pub said-of-each : map (remarks_of terms supplier (is_held_back terms supplier given closed)) given
-      ≡ map (remarks_of terms supplier (is_held_back terms supplier (all_given context cs) (closed_kinds context cs))) (all_given context cs)
-  said-of-each =
-      ap (λ (k : List Kind). map (remarks_of terms supplier (is_held_back terms supplier given k)) given) are.closed
-      ∙ ap (λ (g : List GivenPrice). map (remarks_of terms supplier (is_held_back terms supplier g (closed_kinds context cs))) g) are.given

@@ -1,7 +1,7 @@
 -- A SupplyDetail: the records that are written of it and of its Prices.
-use Rattle.std.specs.Prelude.{ℕ, List, [], ◌∷◌, ◌++◌, Option, Some, None, if◌then◌else◌}
+use Rattle.std.specs.Prelude.{ℕ, List, [], ◌∷◌, Option, Some, None, if◌then◌else◌}
 use Rattle.std.specs.Prelude.{codes, is_some, map}
-use Rattle.std.specs.Prelude.{option_and_then, option_map}
+use Rattle.std.specs.Prelude.{option_map}
 use Rattle.std.specs.Option.{option_or, unwrap_or}
 use Rattle.feed_xml.specs.Grammar.{is_filled}
 use Rattle.feed_outline.specs.Nodes.{Nodes}
@@ -10,14 +10,13 @@ use Rattle.onix_terms.specs.Quantity.{quantity_of}
 use Rattle.onix_records.specs.Detail.{detail_of}
 use Rattle.onix_records.specs.Fields.{optional}
 use Rattle.onix_records.specs.declared.row.Opening.{Opening}
-use Rattle.feed_mapping.specs.Elements.{Composite, below_at, each_at, first, some_at, text_at}
+use Rattle.feed_mapping.specs.Elements.{Composite, below_at, each_at, some_at, text_at}
 use Rattle.feed_mapping.specs.Identifiers.{chosen, identifiers_in}
 use Rattle.feed_terms.specs.declared.term.Term.{Term}
-use Rattle.feed_mapping.specs.Notes.{Note, Reason, Reasons, wrong}
-use Rattle.feed_mapping.specs.OtherSuppliers.{own_details}
+use Rattle.feed_mapping.specs.Notes.{Reason, Reasons, wrong}
 use Rattle.feed_mapping.specs.Outcomes.{Outcome, all_notes, all_records, written_unless}
 use Rattle.feed_mapping.specs.Parties.{Pair, is_there, pair}
-use Rattle.feed_mapping.specs.PriceTerms.{records_with, supplier_of, terms_notes}
+use Rattle.feed_mapping.specs.PriceTerms.{records_with, supplier_of}
 use Rattle.feed_mapping.specs.Prices.{PriceContext, closing_kinds, first_with_text, firsts_in}
 use Rattle.feed_mapping.specs.Prices.{price_outcome}
 use Rattle.feed_mapping.specs.SupplyChoices.{SupplyChoices}
@@ -101,11 +100,6 @@ module _ (preferred : List ℕ) (nodes : Nodes) where
   abbrev pub detail_reason : Option Reason
   detail_reason = option_or (option_map (wrong bad.OldElement) (old_supply nodes)) field_reason
 
--- why the first SupplyDetail among elements that counts is left out, where it is
-abbrev pub first_detail_reason : Option Pair → List ℕ → Nodes → Option Reason
-first_detail_reason supplier preferred nodes =
-    option_and_then (λ c. detail_reason preferred c.below) (first (own_details supplier nodes))
-
 module _ (o : Opening) where
   -- the context of the Prices of a SupplyDetail, by what closes them, and what goes before them;
   -- its OrderQuantityMinimum counts where it is a quantity
@@ -138,18 +132,10 @@ module _ (o : Opening) where
       records_with terms (supplier_of (supplier_id preferred nodes)) (context_in nodes)
       (prices_in nodes)
 
-  -- what the terms say of the Prices besides
-  abbrev pub priced_notes : Option (List Term) → List ℕ → Nodes → List Note
-  priced_notes None preferred nodes = []
-  priced_notes (Some terms) preferred nodes =
-      terms_notes terms (supplier_of (supplier_id preferred nodes)) (context_in nodes)
-      (prices_in nodes)
-
   -- what a SupplyDetail comes to: its record with those of its Prices, or it is left out
   abbrev pub detail_outcome : SupplyChoices → Nodes → Outcome
   detail_outcome choices nodes =
       written_unless (detail_reason choices.preferred nodes)
       ((codes "SupplyDetail" ∷ detail_fields choices.preferred nodes)
       ∷ priced_records choices.terms choices.preferred nodes)
-      (all_notes (price_in nodes) (prices_in nodes)
-      ++ priced_notes choices.terms choices.preferred nodes)
+      (all_notes (price_in nodes) (prices_in nodes))

@@ -7,10 +7,8 @@ use Rattle.std.specs.Option.{option_map_or, option_or}
 use Rattle.onix_records.specs.Fields.{territory_fields}
 use Rattle.onix_records.specs.Supply.{supply_of}
 use Rattle.onix_terms.specs.declared.territory.Territory.{Territory}
-use Rattle.feed_outline.specs.Nodes.{Nodes}
-use Rattle.feed_mapping.specs.Elements.{Composite, each_at, first}
-use Rattle.feed_mapping.specs.Notes.{Note, Reason, Reasons, foreign, is_wrong, note, reason_view}
-use Rattle.feed_mapping.specs.Notes.{wrong}
+use Rattle.feed_mapping.specs.Elements.{Composite, first}
+use Rattle.feed_mapping.specs.Notes.{Reason, Reasons, foreign, is_wrong, reason_view, wrong}
 use Rattle.feed_mapping.specs.Outcomes.{Outcome, left_out, written}
 use Rattle.feed_mapping.specs.Records.{Fields, clean, first_some, unless}
 use Rattle.feed_mapping.specs.Territories.{Area, area_fields, area_in, area_reason, market_of}
@@ -44,10 +42,10 @@ module _ (m : Composite) where
   abbrev pub territory_of : Option Territory
   territory_of = option_and_then (λ a. option_map (λ s. s.market) (market_of a)) kept_area
 
-  -- that it is left out, or the notes on its territory
-  abbrev pub market_notes : List Note
+  -- why it is left out, or what is wrong of its territory
+  abbrev pub market_notes : List Reason
   market_notes =
-      option_map_or (λ reason. note m.element reason ∷ []) (market_reason (area_in m.below))
+      option_map_or (λ reason. reason ∷ []) (market_reason (area_in m.below))
       (territory_notes (area_in m.below))
 
   -- whether it is left out as foreign
@@ -65,11 +63,6 @@ module _ (markets : List Composite) where
   -- the first of them, as it stands
   abbrev pub first_kept : Option Area
   first_kept = first_some (map kept_area markets)
-
--- why the first Market among elements is left out, where it is
-abbrev pub first_market_reason : Nodes → Option Reason
-first_market_reason nodes =
-    option_and_then (λ m. market_reason (area_in m.below)) (first (each_at "Market" nodes))
 
 -- ---- the record of a ProductSupply
 
@@ -89,7 +82,7 @@ kept_fields first territories =
 
 -- of what is found of Markets: the first that is left, where they hold that are left, whether
 -- another is left out as foreign, and the notes on them
-abbrev pub kept_outcome : Option Area → List Territory → Bool → List Note → Outcome
+abbrev pub kept_outcome : Option Area → List Territory → Bool → List Reason → Outcome
 kept_outcome None territories some_foreign notes =
     left_out
     (if some_foreign then foreign other.NoMarketLeft [] else wrong bad.NoMarketLeft [])

@@ -1,6 +1,6 @@
 -- Notes on what of a message is left out, or read as another than it stands.
-use Rattle.std.specs.Prelude.{ℕ, Bool, true, false, List, [], ◌∷◌, map, Option, Some, None}
-use Rattle.feed_mapping.specs.Elements.{Element, element_view}
+use Rattle.std.specs.Prelude.{ℕ, Bool, true, false, List, [], ◌∷◌, Option, if◌then◌else◌}
+use Rattle.std.specs.List.{flat_map}
 use Rattle.feed_mapping.specs.declared.notes.Foreign.{Foreign as ForeignWhy}
 use Rattle.feed_mapping.specs.declared.notes.Note.{Note as Lent}
 use Rattle.feed_mapping.specs.declared.notes.Reason.{Reason as LentReason}
@@ -17,11 +17,6 @@ pub record Reason : Type 0 where
 -- some reasons, each where it holds
 abbrev pub Reasons : Type 0
 Reasons = List (Option Reason)
-
--- what a note speaks of, and the reason
-pub record Note : Type 0 where
-  pub element : Element
-  pub reason : Reason
 
 -- that the desk has no field for something, with the text that the reason is about
 abbrev pub foreign : ForeignWhy → List ℕ → Reason
@@ -41,25 +36,13 @@ abbrev pub is_of_others : ReasonKind → Bool
 is_of_others (Foreign other.OfOthers) = true
 is_of_others kind = false
 
--- a note on an element, by its reason
-abbrev pub note : Element → Reason → Note
-note element reason = record { element = element; reason = reason }
-
--- the note on an element that is left out, where there is a reason for that
-abbrev pub reason_notes : Element → Option Reason → List Note
-reason_notes element None = []
-reason_notes element (Some reason) = note element reason ∷ []
-
 -- ---- without where they lie in memory
 
 -- a reason, as its kind and its text
 abbrev pub reason_view : LentReason → Reason
 reason_view r = record { kind = r.kind; text = r.text.now }
 
--- a note, as what it speaks of and why
-abbrev pub note_view : Lent → Note
-note_view n = record { element = element_view n.line.now; reason = reason_view n.reason }
-
--- notes, as what they speak of and why
-abbrev pub note_views : List Lent → List Note
-note_views notes = map note_view notes
+-- notes, as the reasons for which something is left out or is wrong: what is said beside that, and
+-- of what a note speaks, no contract says
+abbrev pub note_views : List Lent → List Reason
+note_views notes = flat_map (λ n. if n.is_aside then [] else reason_view n.reason ∷ []) notes

@@ -1,6 +1,6 @@
 -- What the terms of the shop see of the Prices of a SupplyDetail, and what comes of them by these.
 use Rattle.std.specs.Prelude.{◌≡◌, ℕ, Bool, false, ◌&&◌, ◌||◌, List, [], ◌∷◌, ◌++◌, Option, Some, None, if◌then◌else◌}
-use Rattle.std.specs.Prelude.{codes, length, map, nat_lt, replicate, drop, take}
+use Rattle.std.specs.Prelude.{codes, length, nat_lt, drop, take}
 use Rattle.std.specs.List.{flat_map, list_any}
 use Rattle.std.specs.Option.{option_to_list}
 use Rattle.std.specs.Str.{bytes_eq, is_utf8}
@@ -9,27 +9,21 @@ use Rattle.feed_outline.specs.Nodes.{Nodes, no_nodes, node}
 use Rattle.onix_records.specs.Price.{price_of}
 use Rattle.onix_records.specs.declared.parts.Price.{Price}
 use Rattle.onix_records.specs.declared.row.Opening.{Opening}
-use Rattle.feed_terms.specs.HeldBack.{is_held_back}
 use Rattle.feed_terms.specs.Percents.{feed_percent_of}
 use Rattle.feed_terms.specs.Prices.{code_said, discount_of}
-use Rattle.feed_terms.specs.WithTerms.{remarks_of, with_terms}
-use Rattle.feed_terms.specs.declared.with_terms.Remarks.{Remarks}
+use Rattle.feed_terms.specs.WithTerms.{with_terms}
 use Rattle.feed_terms.specs.declared.price.Discount.{Discount}
 use Rattle.feed_terms.specs.declared.price.SaidCode.{SaidCode}
 use Rattle.feed_terms.specs.declared.price.GivenPrice.{GivenPrice}
 use Rattle.feed_terms.specs.declared.price.Kind.{Kind}
 use Rattle.feed_terms.specs.declared.term.Term.{Term}
 use Rattle.feed_mapping.specs.Again.{comes_again}
-use Rattle.feed_mapping.specs.Elements.{Composite, Element, each_at, element_view}
-use Rattle.feed_mapping.specs.Elements.{some_at, text_at}
-use Rattle.feed_mapping.specs.Notes.{Note, foreign, note}
+use Rattle.feed_mapping.specs.Elements.{Composite, each_at, some_at, text_at}
 use Rattle.feed_mapping.specs.Outcomes.{Outcome, all_records, written}
 use Rattle.feed_mapping.specs.Parties.{Pair, is_there}
 use Rattle.feed_mapping.specs.Prices.{PriceContext, is_for_others, kind_in, written_fields}
 use Rattle.feed_mapping.specs.Prices.{price_outcome}
 use Rattle.feed_mapping.specs.Records.{Fields, Records, parsed, parsed_term}
-use Rattle.feed_mapping.specs.declared.notes.Foreign.TheVariants as other
-use Rattle.feed_mapping.specs.declared.price_terms.Place.{Place}
 
 -- ---- what a Price says to the terms
 
@@ -129,21 +123,11 @@ module _ (context : PriceContext) where
   abbrev pub closed_kinds : List Composite → List Kind
   closed_kinds prices = flat_map closed_by prices
 
-  -- the element of a Price that the terms see
-  abbrev pub elements_in : Composite → List Element
-  elements_in c = map (λ g. c.element) (given_in c.below)
-
--- the elements that stand in places
-abbrev pub places_view : List Place → List Element
-places_view places = map (λ p. element_view p.line.now) places
-
--- what the terms see of the Prices of a SupplyDetail fits these records, and these elements are
--- those of the Prices that they see
+-- what the terms see of the Prices of a SupplyDetail fits these records
 pub record AreWritten (context : PriceContext) (prices : List Composite) (kept : Records)
-    (seen : List GivenPrice) (elements : List Element) (kinds : List Kind) : Type 0 where
+    (seen : List GivenPrice) (kinds : List Kind) : Type 0 where
   pub records : kept ≡ all_records (outcome_in context) prices
   pub given : seen ≡ all_given context prices
-  pub places : elements ≡ flat_map (elements_in context) prices
   pub closed : kinds ≡ closed_kinds context prices
 
 -- a supplier as a term has it, by an identifier that is there and UTF-8
@@ -154,21 +138,6 @@ supplier_of i =
 
 -- ---- what comes of them
 
--- notes on a Price of which that is said: that no term fits it, that an amount of 0 is computed of
--- it, and one for each computed price that is held back
-abbrev pub remark_notes : Element → Remarks → List Note
-remark_notes element r =
-    (if r.is_unfitted then note element (foreign other.NoTerm []) ∷ [] else [])
-    ++ ((if r.is_free then note element (foreign other.NothingToPay []) ∷ [] else [])
-    ++ replicate r.held (note element (foreign other.HeldBack [])))
-
--- the notes on Prices with these elements, of each of which that is said
-abbrev pub all_remark_notes : List Element → List Remarks → List Note
-all_remark_notes [] remarks = []
-all_remark_notes (element ∷ elements) [] = []
-all_remark_notes (element ∷ elements) (r ∷ remarks) =
-    remark_notes element r ++ all_remark_notes elements remarks
-
 module _ (terms : List Term) (supplier : Option (List ℕ)) (context : PriceContext)
     (prices : List Composite) where
   -- the records of the Prices of a SupplyDetail, with those that the terms compute
@@ -176,11 +145,3 @@ module _ (terms : List Term) (supplier : Option (List ℕ)) (context : PriceCont
   records_with =
       with_terms terms supplier (closed_kinds context prices) (all_given context prices)
       (all_records (outcome_in context) prices)
-
-  -- notes on what else comes of them
-  abbrev pub terms_notes : List Note
-  terms_notes =
-      all_remark_notes (flat_map (elements_in context) prices)
-      (map (remarks_of terms supplier
-      (is_held_back terms supplier (all_given context prices) (closed_kinds context prices)))
-      (all_given context prices))

@@ -1,6 +1,6 @@
 -- A Price: the record that is written of it, or why it is left out.
 use Prim.Native.String.{String}
-use Rattle.std.specs.Prelude.{ℕ, Bool, false, ◌&&◌, ◌||◌, nat_lt}
+use Rattle.std.specs.Prelude.{◌≡◌, ℕ, Bool, false, ◌&&◌, ◌||◌, nat_lt}
 use Rattle.std.specs.Prelude.{List, [], ◌∷◌, ◌++◌, Option, Some, None, if◌then◌else◌, codes}
 use Rattle.std.specs.Prelude.{find, fold, map, not, option_map, is_none, is_some}
 use Rattle.std.specs.List.{flat_map, list_any}
@@ -16,15 +16,14 @@ use Rattle.onix_records.specs.declared.row.Opening.{Opening}
 use Rattle.onix_terms.specs.Code.{code2_of, currency_of}
 use Rattle.onix_terms.specs.Quantity.{quantity_of}
 use Rattle.feed_mapping.specs.Amounts.{amount_said, amount_written, are_zeros, is_zero}
-use Rattle.feed_mapping.specs.Amounts.{rounded_amount, written_amount}
+use Rattle.feed_mapping.specs.Amounts.{written_amount}
 use Rattle.feed_mapping.specs.Dates.{days, days_in}
 use Rattle.feed_mapping.specs.declared.dates.Days.{Days}
-use Rattle.feed_mapping.specs.Elements.{Composite, composites, each_at, first, some_at, text_at}
+use Rattle.feed_mapping.specs.Elements.{Composite, each_at, first, some_at, text_at}
 use Rattle.feed_mapping.specs.Narrower.{all_excluded, countries_without, excluded_then}
-use Rattle.feed_mapping.specs.Notes.{Note, Reason, Reasons, foreign, is_wrong, note}
-use Rattle.feed_mapping.specs.Notes.{wrong}
-use Rattle.feed_mapping.specs.Outcomes.{Outcome, nothing, written_unless}
-use Rattle.feed_mapping.specs.Records.{Fields, desk_reason, first_some, option_filter, parsed}
+use Rattle.feed_mapping.specs.Notes.{Reason, Reasons, foreign, is_wrong, wrong}
+use Rattle.feed_mapping.specs.Outcomes.{Outcome, nothing, notes_below, outcome_records, written_unless}
+use Rattle.feed_mapping.specs.Records.{Fields, Records, desk_reason, first_some, option_filter, parsed}
 use Rattle.feed_mapping.specs.Records.{parsed_term}
 use Rattle.feed_mapping.specs.Records.{invalid}
 use Rattle.feed_mapping.specs.Regions.{countries_written, names_world}
@@ -32,11 +31,9 @@ use Rattle.feed_mapping.specs.Territories.{Area, area_fields, area_in, area_reas
 use Rattle.feed_mapping.specs.Territories.{territory_notes, unsupported}
 use Rattle.feed_mapping.specs.declared.narrower.Alike.{Alike}
 use Rattle.feed_mapping.specs.declared.narrower.First.{First}
-use Rattle.feed_mapping.specs.declared.notes.Foreign.{Foreign}
 use Rattle.feed_mapping.specs.declared.notes.Foreign.TheVariants.{BesideDates, CurrencyZone}
-use Rattle.feed_mapping.specs.declared.notes.Foreign.TheVariants.{Discount, EpubLicenseWithDate}
-use Rattle.feed_mapping.specs.declared.notes.Foreign.TheVariants.{DiscountCoded, EpubLicense}
-use Rattle.feed_mapping.specs.declared.notes.Foreign.TheVariants.{LongTerritory, NoCharge, Rounded}
+use Rattle.feed_mapping.specs.declared.notes.Foreign.TheVariants.{EpubLicense, EpubLicenseWithDate}
+use Rattle.feed_mapping.specs.declared.notes.Foreign.TheVariants.{LongTerritory, NoCharge}
 use Rattle.feed_mapping.specs.declared.notes.Foreign.TheVariants.{PriceCoded, PriceCondition}
 use Rattle.feed_mapping.specs.declared.notes.Foreign.TheVariants.{PriceConstraint, PricePer}
 use Rattle.feed_mapping.specs.declared.notes.Foreign.TheVariants.{PriceQualifier}
@@ -276,29 +273,18 @@ module _ (context : PriceContext) (nodes : Nodes) where
 
 -- ---- what a Price comes to
 
--- a note on each element of this name, which is not read
-abbrev pub unread_notes : List ℕ → Foreign → Nodes → List Note
-unread_notes name kind nodes =
-    flat_map (λ c. note c.element (foreign kind []) ∷ []) (composites name nodes)
-
--- that the amount of a Price is rounded
-abbrev pub rounded_notes : Nodes → List Note
-rounded_notes nodes =
-    if is_some (rounded_amount (amount_said nodes))
-    then option_to_list (option_map (λ c. note c.element (foreign Rounded []))
-    (first (each_at "PriceAmount" nodes)))
-    else []
-
--- notes on what is counted alone: on what would make another price, and on a rounded amount
-abbrev pub counted_notes : Nodes → List Note
-counted_notes nodes =
-    unread_notes (codes "Discount") Discount nodes
-    ++ (unread_notes (codes "DiscountCoded") DiscountCoded nodes ++ rounded_notes nodes)
-
 abbrev pub outcome_of : Option Reason → PriceContext → Nodes → Outcome
 outcome_of reason context nodes =
     written_unless reason ((codes "Price" ∷ written_fields context nodes) ∷ [])
-    (territory_notes (area_in nodes) ++ counted_notes nodes)
+    (territory_notes (area_in nodes))
+
+-- a call left a Price out for this reason, or added its record and the notes on what is below it
+abbrev pub AddsUnless : Option Reason → PriceContext → Nodes → Option Reason → Records → Records
+    → List Reason → List Reason → Type 0
+AddsUnless reason context nodes given records_before records notes_before notes =
+    (given ≡ reason)
+    × ((records ≡ records_before ++ outcome_records (outcome_of reason context nodes))
+    × (notes ≡ notes_before ++ notes_below (outcome_of reason context nodes)))
 
 module _ (context : PriceContext) (nodes : Nodes) where
   -- A Price without an amount and without PriceCoded is nothing, whatever else stands in it, where

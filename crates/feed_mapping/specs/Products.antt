@@ -10,7 +10,7 @@ use Rattle.feed_xml.specs.Grammar.{is_filled}
 use Rattle.feed_outline.specs.Nodes.{Nodes}
 use Rattle.onix_terms.specs.Code.{code2_of, isbn13_of}
 use Rattle.feed_mapping.specs.Elements.{Composite, each_at, text_at}
-use Rattle.feed_mapping.specs.Notes.{Note, Reason, Reasons, note}
+use Rattle.feed_mapping.specs.Notes.{Reason, Reasons}
 use Rattle.feed_mapping.specs.Parties.{Pair}
 use Rattle.feed_mapping.specs.Records.{Fields, first_some, is_field, parsed_term}
 use Rattle.feed_mapping.specs.Records.{unless, invalid}
@@ -96,9 +96,9 @@ module _ (identifier : Composite) where
   is_isbn = is_gtin_type type_of && is_thirteen value_written
 
   -- a note on one that the desk would not take
-  abbrev pub identifier_note : Bool → List Note
+  abbrev pub identifier_note : Bool → List Reason
   identifier_note is_found =
-      option_map_or (λ reason. note identifier.element (graded is_found reason) ∷ [])
+      option_map_or (λ reason. graded is_found reason ∷ [])
       identifier_reason []
 
 -- the pair 01 and the RecordReference stands for identifiers, where there are none
@@ -145,7 +145,7 @@ module _ (nodes : Nodes) where
   has_isbn = list_any is_isbn identifiers_in
 
   -- notes on the others
-  abbrev pub identifier_notes : List Note
+  abbrev pub identifier_notes : List Reason
   identifier_notes = flat_map (λ i. identifier_note i has_isbn) identifiers_in
 
 -- the record of a Product of this NotificationType, with these types and values

@@ -1,6 +1,6 @@
 -- The regions that a text names.
 use Rattle.std.specs.Prelude.{◌≡◌, ℕ, ◌+◌, Bool, true, false, ◌&&◌, ◌||◌, ◌==◌, not, List, [], ◌∷◌}
-use Rattle.std.specs.Prelude.{Option, Some, None, if◌then◌else◌, codes, find, filter, map, position}
+use Rattle.std.specs.Prelude.{Option, Some, None, if◌then◌else◌, codes, find, map, position}
 use Rattle.std.specs.Prelude.{take, drop}
 use Rattle.std.specs.Borrow.{Bor}
 use Rattle.std.specs.Char.{is_ascii_digit, is_ascii_uppercase}
@@ -44,10 +44,6 @@ module _ (text : List ℕ) where
   abbrev pub names_world : Bool
   names_world = list_any is_world (words_of text)
 
-  -- the regions but WORLD, in order
-  abbrev pub other_regions : List (List ℕ)
-  other_regions = filter (λ region. not (is_world region)) (words_of text)
-
   -- the first region that is neither a part of a country nor two letters
   abbrev pub region_of_no_country : Option (List ℕ)
   region_of_no_country =
@@ -60,10 +56,6 @@ module _ (text : List ℕ) where
   -- the first region that is two letters
   abbrev pub two_letters_in : Option (List ℕ)
   two_letters_in = find is_two_letters (words_of text)
-
-  -- the countries by another code, in order
-  abbrev pub other_names : List (List ℕ)
-  other_names = filter is_other_name (words_of text)
 
   -- countries with the codes of ISO 3166 in place of such names, and else as they stand
   abbrev pub countries_written : List ℕ

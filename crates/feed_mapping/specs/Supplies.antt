@@ -1,21 +1,20 @@
 -- The supplies of a Product: what comes of them.
-use Rattle.std.specs.Prelude.{ℕ, Bool, true, false, List, [], ◌∷◌, ◌++◌, Option, Some, None, map}
+use Rattle.std.specs.Prelude.{Bool, true, false, List, [], ◌∷◌, ◌++◌, Option, Some, map}
 use Rattle.std.specs.Prelude.{if◌then◌else◌, is_some, option_map}
 use Rattle.feed_outline.specs.Nodes.{Nodes}
 use Rattle.onix_records.specs.declared.row.Opening.{Opening}
-use Rattle.feed_mapping.specs.Details.{detail_outcome, first_detail_reason}
+use Rattle.feed_mapping.specs.Details.{detail_outcome}
 use Rattle.feed_mapping.specs.Elements.{Composite, each_at, first}
-use Rattle.feed_mapping.specs.Markets.{first_market_reason, markets_outcome}
+use Rattle.feed_mapping.specs.Markets.{markets_outcome}
 use Rattle.feed_mapping.specs.Notes.{Reason, Reasons, foreign, is_wrong, wrong}
 use Rattle.feed_mapping.specs.OtherSuppliers.{own_details}
 use Rattle.feed_mapping.specs.Outcomes.{Outcome, all_notes, all_records, left_out, notes_below}
 use Rattle.feed_mapping.specs.Outcomes.{nothing, outcome_reason, outcome_records, written_unless}
-use Rattle.feed_mapping.specs.Parties.{Pair}
 use Rattle.feed_mapping.specs.Records.{first_some, if_empty, option_filter}
 use Rattle.feed_mapping.specs.SupplyChoices.{SupplyChoices}
 use Rattle.feed_mapping.specs.declared.notes.Foreign.TheVariants as other
 use Rattle.feed_mapping.specs.declared.notes.ReasonKind.{ReasonKind}
-use Rattle.feed_mapping.specs.declared.notes.ReasonKind.TheVariants.{Foreign, Wrong}
+use Rattle.feed_mapping.specs.declared.notes.ReasonKind.TheVariants.{Foreign}
 use Rattle.feed_mapping.specs.declared.notes.Wrong.TheVariants as bad
 
 -- the SupplyDetails of a ProductSupply that count
@@ -78,14 +77,3 @@ module _ (o : Opening) (choices : SupplyChoices) where
   abbrev pub supplies_reason : List Composite → Option Reason
   supplies_reason supplies =
       if_empty (all_records supply_in supplies) (option_map none_left (first_lost supplies))
-
--- ---- what a note says besides
-
--- why the first is left out of the Markets or of the SupplyDetails of a ProductSupply that is left
--- out since all of them are
-abbrev pub first_reason : Option Pair → List ℕ → ReasonKind → Nodes → Option Reason
-first_reason supplier preferred (Wrong bad.NoDetailLeft) nodes =
-    first_detail_reason supplier preferred nodes
-first_reason supplier preferred (Wrong bad.NoMarketLeft) nodes = first_market_reason nodes
-first_reason supplier preferred (Foreign other.NoMarketLeft) nodes = first_market_reason nodes
-first_reason supplier preferred kind nodes = None

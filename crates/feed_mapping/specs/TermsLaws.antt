@@ -1,6 +1,5 @@
 -- What the terms of the shop change of the records of a SupplyDetail.
-use Rattle.std.specs.Prelude.{◌≡◌, ℕ, List, Option, Some, None, map, length}
-use Rattle.std.specs.List.{AllByRecursion}
+use Rattle.std.specs.Prelude.{◌≡◌, ℕ, List, Some, None, map, length}
 use Rattle.feed_outline.specs.Nodes.{Nodes}
 use Rattle.onix_records.specs.Row.{row_of}
 use Rattle.onix_records.specs.declared.parts.Price.{Price}
@@ -9,30 +8,18 @@ use Rattle.onix_records.specs.declared.row.Row.TheVariants as row
 use Rattle.price_rules.specs.Price.{IsCurrent}
 use Rattle.price_rules.specs.declared.offer.Offer.{Offer}
 use Rattle.price_rules.specs.declared.offer.PriceQuery.{PriceQuery}
-use Rattle.feed_terms.specs.Fits.{fitting}
 use Rattle.feed_terms.specs.HeldBack.{is_held_back}
 use Rattle.feed_terms.specs.Laws.{less_behind}
 use Rattle.feed_terms.specs.WithTerms.{written_of}
 use Rattle.feed_terms.specs.declared.term.Term.{Term}
 use Rattle.feed_mapping.specs.Details.{context_in, priced_records, prices_in, supplier_id}
 use Rattle.feed_mapping.specs.PriceTerms.{all_given, closed_kinds, supplier_of}
-use Rattle.feed_mapping.specs.SupplyChoices.{SupplyChoices}
 
 -- the desk reads these prices of records
 abbrev pub AreRead : Opening → List (List (List ℕ)) → List Price → Type 0
 AreRead o records prices = map (row_of o) records ≡ map Some (map row.Price prices)
 
--- what is chosen, with these terms
-abbrev pub by_terms : Option (List Term) → SupplyChoices → SupplyChoices
-by_terms terms choices = record choices { terms = terms }
-
 module _ (o : Opening) (terms : List Term) (preferred : List ℕ) (nodes : Nodes) where
-  -- no term fits a Price that is written
-  abbrev pub NoneFits : Type 0
-  NoneFits =
-      AllByRecursion (λ g. fitting (supplier_of (supplier_id preferred nodes)) g terms ≡ None)
-      (all_given (context_in o nodes) (prices_in nodes))
-
   -- how many prices are computed of each Price that is written
   abbrev pub computed_counts : List ℕ
   computed_counts =

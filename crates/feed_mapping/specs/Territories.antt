@@ -1,25 +1,21 @@
 -- Where a Market or a Price holds: what its Territory says, and what of that the desk supports.
 use Rattle.std.specs.Prelude.{ℕ, Bool, not, ◌||◌, ◌&&◌, List, [], ◌∷◌, ◌++◌, Option, Some, None, if◌then◌else◌}
-use Rattle.std.specs.Prelude.{is_some, map, option_map}
-use Rattle.std.specs.Option.{option_map_or, option_or}
+use Rattle.std.specs.Prelude.{filter, is_some, map, option_map}
+use Rattle.std.specs.Option.{option_or}
 use Rattle.feed_xml.specs.Grammar.{is_filled}
 use Rattle.feed_outline.specs.Nodes.{Nodes}
 use Rattle.onix_records.specs.Supply.{supply_of}
 use Rattle.onix_records.specs.declared.parts.ProductSupply.{ProductSupply}
-use Rattle.onix_terms.specs.Territory.{countries_of, world_text}
+use Rattle.onix_terms.specs.Territory.{countries_of, words_of, world_text}
 use Rattle.feed_mapping.specs.Again.{again_in}
 use Rattle.feed_mapping.specs.Elements.{Element, below_at, each_at, element_view, first}
 use Rattle.feed_mapping.specs.Elements.{text_at}
-use Rattle.feed_mapping.specs.Notes.{Note, Reason, Reasons, foreign, note, wrong}
+use Rattle.feed_mapping.specs.Notes.{Reason, Reasons, foreign, wrong}
 use Rattle.feed_mapping.specs.PriceViews.{text_view}
 use Rattle.feed_mapping.specs.Records.{Fields, desk_reason, parsed, parsed_term, invalid}
-use Rattle.feed_mapping.specs.Regions.{IsRenamed, countries_written, names_world, other_names}
-use Rattle.feed_mapping.specs.Regions.{first_region, is_two_letters, other_regions}
-use Rattle.feed_mapping.specs.Regions.{region_of_no_country, two_letters_in}
-use Rattle.feed_mapping.specs.declared.notes.Foreign.{Foreign}
-use Rattle.feed_mapping.specs.declared.notes.Foreign.TheVariants.{CountryName, RegionIncluded}
-use Rattle.feed_mapping.specs.declared.notes.Foreign.TheVariants.{RegionExcluded, RegionAlone}
-use Rattle.feed_mapping.specs.declared.notes.Foreign.TheVariants.{RegionOfNoCountry}
+use Rattle.feed_mapping.specs.Regions.{IsRenamed, countries_written, first_region, is_two_letters}
+use Rattle.feed_mapping.specs.Regions.{names_world, region_of_no_country, two_letters_in}
+use Rattle.feed_mapping.specs.declared.notes.Foreign.TheVariants.{RegionAlone, RegionOfNoCountry}
 use Rattle.feed_mapping.specs.declared.notes.Wrong.TheVariants.{ComesAgain, CountriesExcluded}
 use Rattle.feed_mapping.specs.declared.notes.Wrong.TheVariants.{CountryAsRegion, EmptyTerritory}
 use Rattle.feed_mapping.specs.declared.notes.Wrong.TheVariants.{CountriesIncluded, Territory}
@@ -52,15 +48,9 @@ area_in nodes =
 
 -- ---- what the desk does not support
 
--- a note for each of some words
-abbrev pub word_notes : Element → Foreign → List (List ℕ) → List Note
-word_notes element kind words = map (λ word. note element (foreign kind word)) words
-
--- a note for each of some regions, which is left out of its territory; two letters are a country
-abbrev pub region_notes : Element → Foreign → List (List ℕ) → List Note
-region_notes element kind regions =
-    map (λ r. note element (if is_two_letters r then wrong CountryAsRegion r else foreign kind r))
-    regions
+-- that each of these regions which is two letters is a country
+abbrev pub region_notes : List ℕ → List Reason
+region_notes regions = map (wrong CountryAsRegion) (filter is_two_letters (words_of regions))
 
 -- the countries that a text names
 abbrev pub parsed_countries : List ℕ → Option (List (List ℕ))
@@ -111,14 +101,11 @@ module _ (a : Area) where
       countries_written a.included ∷ world_text (names_world a.regions_included)
       ∷ countries_written a.excluded ∷ []
 
-  -- Notes on a territory that the desk supports. Beside a country or the world a region that is
-  -- included is left out, and one that is excluded is a part of a country.
-  abbrev pub territory_notes : List Note
+  -- what is wrong of a territory that the desk supports
+  abbrev pub territory_notes : List Reason
   territory_notes =
-      option_map_or (λ e. region_notes e RegionIncluded (other_regions a.regions_included)
-      ++ (region_notes e RegionExcluded (other_regions a.regions_excluded)
-      ++ (word_notes e CountryName (other_names a.included)
-      ++ word_notes e CountryName (other_names a.excluded)))) a.territory []
+      if is_some a.territory
+      then region_notes a.regions_included ++ region_notes a.regions_excluded else []
 
   -- the market of a territory, as the desk reads it
   abbrev pub market_of : Option ProductSupply

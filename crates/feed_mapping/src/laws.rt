@@ -4,15 +4,14 @@
 ghost use Rattle.std.specs.Prelude.{◌≡◌, ◌+◌, ◌<◌, ◌≤◌, ◌++◌, [], ℕ, List, None, Ok, Some, length};
 ghost use Rattle.feed_mapping.specs.Header.{Choices, Heading, heading_in};
 ghost use Rattle.std.specs.List.{AllByRecursion};
-ghost use Rattle.feed_mapping.specs.Elements.{Composite};
-ghost use Rattle.feed_mapping.specs.ProductRecords.{fate_of, product_notes, product_records, variants};
-ghost use Rattle.feed_mapping.specs.Details.{detail_outcome, priced_records};
+ghost use Rattle.feed_mapping.specs.ProductRecords.{fate_of, variants};
+ghost use Rattle.feed_mapping.specs.Details.{detail_outcome};
 ghost use Rattle.feed_mapping.specs.Outcomes.{outcome_reason};
 ghost use Rattle.feed_mapping.specs.PriceFates.{HasDetails, HasPrices, HasSupplies};
 ghost use Rattle.feed_mapping.specs.Supplies.{supply_outcome};
 ghost use Rattle.feed_mapping.specs.Rows.{AreOf, AreProducts, MayCompute, message_records, numbered, part_record, references_of};
 ghost use Rattle.feed_mapping.specs.SupplyChoices.{SupplyChoices};
-ghost use Rattle.feed_mapping.specs.TermsLaws.{GivenStands, IsAdded, NoneFits, by_terms};
+ghost use Rattle.feed_mapping.specs.TermsLaws.{GivenStands, IsAdded};
 ghost use Rattle.feed_terms.specs.declared.term.Term.{Term};
 ghost use Rattle.onix_records.specs.Grammar.{IsMessage, most_records};
 ghost use Rattle.onix_records.specs.Opening.{opening_of};
@@ -22,9 +21,7 @@ ghost use Rattle.onix_records.specs.declared.row.Opening.{Opening};
 ghost use Rattle.feed_outline.specs.Nodes.{Nodes};
 
 use crate::product_records::Fate;
-use feed_terms::laws::{
-    computed_reads_back, given_price_stands, less_computed_is_without, nothing_by_no_terms,
-};
+use feed_terms::laws::{computed_reads_back, given_price_stands, less_computed_is_without};
 use onix_records::row::Form;
 use onix_terms::laws::number_reads_back;
 
@@ -47,9 +44,9 @@ pub fn parts_say_the_same()
 /// are those of several Products, one after the other. With a first record and an end they are a
 /// message, if they are not too many.
 pub fn records_are_products()
-    ensures one { (o : Opening) (choices : SupplyChoices) (c : Composite)
+    ensures one { (o : Opening) (choices : SupplyChoices) (nodes : Nodes)
         → MayCompute o choices.terms → AllByRecursion
-        (λ f. AreOf o f.records (references_of c.below)) (variants o choices c) }
+        (λ f. AreOf o f.records (references_of nodes)) (variants o choices nodes) }
     ensures none { (o : Opening) → AreProducts o [] [] }
     ensures joined { (o : Opening) (a b : List (List (List ℕ))) (c d : List Product)
         → AreProducts o a c → AreProducts o b d → AreProducts o (a ++ b) (c ++ d) }
@@ -73,41 +70,21 @@ pub fn prices_stand_or_are_told()
     ensures supplies { (o : Opening) (choices : SupplyChoices) (nodes : Nodes)
         → outcome_reason (supply_outcome o choices nodes) ≡ None
         → HasDetails o choices nodes }
-    ensures products { (o : Opening) (choices : SupplyChoices) (c : Composite)
-        → fate_of o choices c.below ≡ Fate.Written → HasSupplies o choices c }
+    ensures products { (o : Opening) (choices : SupplyChoices) (nodes : Nodes)
+        → fate_of o choices nodes ≡ Fate.Written → HasSupplies o choices nodes }
 {}
 
 /// The terms of the shop only add records behind those of Prices: of a SupplyDetail the records
 /// less the computed ones are those without terms; and wherever a price of the feed is the current
 /// one of the offer that the desk reads of the records, by the desk's own definition, it is that
-/// with the computed ones too. Where no term fits a Price, nothing is added.
+/// with the computed ones too.
 pub fn terms_only_add()
     ensures added { (o : Opening) (terms : List Term) (preferred : List ℕ) (nodes : Nodes)
         → IsAdded o terms preferred nodes }
     ensures stands { (o : Opening) (terms : List Term) (preferred : List ℕ) (nodes : Nodes)
         → MayCompute o (Some terms) → GivenStands o terms preferred nodes }
-    ensures fitting { (o : Opening) (terms : List Term) (preferred : List ℕ) (nodes : Nodes)
-        → NoneFits o terms preferred nodes
-        → priced_records o (Some terms) preferred nodes
-        ≡ priced_records o None preferred nodes }
 {
     less_computed_is_without();
     given_price_stands();
     computed_reads_back();
-}
-
-/// A table of no term says nothing: the records of a Product, the notes on it, and whether it is
-/// written, emptied or left out, are as without terms.
-pub fn no_term_says_nothing()
-    ensures records { (o : Opening) (choices : SupplyChoices) (c : Composite)
-        → product_records o (by_terms (Some []) choices) c.below
-        ≡ product_records o (by_terms None choices) c.below }
-    ensures notes { (o : Opening) (choices : SupplyChoices) (c : Composite)
-        → product_notes o (by_terms (Some []) choices) c
-        ≡ product_notes o (by_terms None choices) c }
-    ensures fate { (o : Opening) (choices : SupplyChoices) (c : Composite)
-        → fate_of o (by_terms (Some []) choices) c.below
-        ≡ fate_of o (by_terms None choices) c.below }
-{
-    nothing_by_no_terms();
 }

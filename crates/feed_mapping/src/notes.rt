@@ -1,8 +1,7 @@
 //! Notes on what of a message is left out, or read as another than it stands.
 
-ghost use Rattle.std.specs.Prelude.{◌≡◌, ◌++◌, ◌∷◌, [], OnOk, option_map};
-ghost use Rattle.feed_mapping.specs.Elements.{element_view};
-ghost use Rattle.feed_mapping.specs.Notes.{foreign, is_of_others, is_wrong, note, note_views, reason_notes, reason_view, wrong};
+ghost use Rattle.std.specs.Prelude.{◌≡◌, ◌++◌, ◌∷◌, [], OnOk, option_map, option_to_list};
+ghost use Rattle.feed_mapping.specs.Notes.{foreign, is_of_others, is_wrong, note_views, reason_view, wrong};
 
 use feed_outline::Line;
 use std::alloc::AllocError;
@@ -224,11 +223,13 @@ impl<'a> Reason<'a> {
     }
 }
 
-/// That something is left out: the line of what the note speaks of, and the reason.
+/// That something is left out or wrong: the line of what the note speaks of, and the reason. What is
+/// said beside that is an aside: nothing of a message depends on it.
 #[derive(Clone, Copy)]
 pub struct Note<'a> {
     pub line: &'a Line,
     pub reason: Reason<'a>,
+    pub is_aside: bool,
 }
 
 /// Adds a note on the element of a line.
@@ -238,9 +239,30 @@ pub(crate) fn push_note<'a>(
     reason: Reason<'a>,
 ) -> Result<(), AllocError>
     ensures { OnOk result (note_views notes.new.items ≡ note_views notes.old.items
-        ++ note (element_view line.now) (reason_view reason.entry) ∷ []) }
+        ++ reason_view reason.entry ∷ []) }
 {
-    notes.push(Note { line, reason })?;
+    notes.push(Note {
+        line,
+        reason,
+        is_aside: false,
+    })?;
+    Ok(())
+}
+
+/// Adds an aside on the element of a line, with the text that it is about.
+pub(crate) fn push_aside<'a>(
+    notes: &mut Vec<Note<'a>>,
+    line: &'a Line,
+    kind: Foreign,
+    text: &'a [u8],
+) -> Result<(), AllocError>
+    ensures { OnOk result (note_views notes.new.items ≡ note_views notes.old.items) }
+{
+    notes.push(Note {
+        line,
+        reason: Reason::foreign(kind, text),
+        is_aside: true,
+    })?;
     Ok(())
 }
 
@@ -251,7 +273,7 @@ pub(crate) fn push_reason<'a>(
     reason: Option<Reason<'a>>,
 ) -> Result<(), AllocError>
     ensures { OnOk result (note_views notes.new.items ≡ note_views notes.old.items
-        ++ reason_notes (element_view line.now) (option_map reason_view reason.entry)) }
+        ++ option_to_list (option_map reason_view reason.entry)) }
 {
     match reason {
         None => Ok(()),

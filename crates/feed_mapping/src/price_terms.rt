@@ -1,20 +1,19 @@
 //! What the terms of the shop see of the Prices of a SupplyDetail, and what comes of them by these.
 
-ghost use Rattle.std.specs.Prelude.{◌≡◌, ◌≤◌, ◌++◌, ◌∷◌, [], IfOk, OnOk, true, codes, length, replicate};
+ghost use Rattle.std.specs.Prelude.{◌≡◌, ◌≤◌, ◌++◌, IfOk, OnOk, codes, length};
 ghost use Rattle.std.specs.List.{flat_map};
 ghost use Rattle.std.specs.Option.{option_copied, option_to_list};
-ghost use Rattle.feed_mapping.specs.Elements.{composites, element_view};
-ghost use Rattle.feed_mapping.specs.Notes.{foreign, note, note_views};
+ghost use Rattle.feed_mapping.specs.Elements.{composites};
+ghost use Rattle.feed_mapping.specs.Notes.{note_views};
 ghost use Rattle.feed_mapping.specs.Outcomes.{all_notes, outcome_notes, outcome_records};
 ghost use Rattle.feed_mapping.specs.PartyViews.{pair_view};
 ghost use Rattle.feed_mapping.specs.Prices.{context_view};
-ghost use Rattle.feed_mapping.specs.PriceTerms.{AreWritten, area_text, closed_by, code_in, discount_in, elements_in, given_in, given_of, is_garbled, is_mixed, is_of_terms, kinds_closed, outcome_in, places_view, records_with, all_remark_notes, remark_notes, supplier_of, tax_in, terms_notes};
-ghost use Rattle.feed_mapping.specs.declared.notes.Foreign.TheVariants as other;
+ghost use Rattle.feed_mapping.specs.PriceTerms.{AreWritten, area_text, closed_by, code_in, discount_in, given_in, given_of, is_garbled, is_mixed, is_of_terms, kinds_closed, outcome_in, records_with, supplier_of, tax_in};
 
 use crate::again::comes_again;
 use crate::elements::{Composite, next_composite, text_or_empty};
 use crate::identifiers::is_there;
-use crate::notes::{Foreign, Note, Reason, push_note};
+use crate::notes::{Foreign, Note, push_aside};
 use crate::parties::Pair;
 use crate::price_kinds::kind_in;
 use crate::prices::{PriceContext, add_price, is_for_others, price_in};
@@ -234,13 +233,10 @@ fn add_written<'a>(
         ++ outcome_records (outcome_in (context_view context.now) price.now)) }
     ensures given { OnOk result (written.new.given.items ≡ written.old.given.items
         ++ given_in (context_view context.now) price.now.below) }
-    ensures places { OnOk result (places_view written.new.places.items
-        ≡ places_view written.old.places.items
-        ++ elements_in (context_view context.now) price.now) }
     ensures closed { OnOk result (written.new.closed.items
         ≡ written.old.closed.items ++ closed_by (context_view context.now) price.now) }
     ensures notes { OnOk result (note_views notes.new.items ≡ note_views notes.old.items
-        ++ outcome_notes price.now.element (outcome_in (context_view context.now) price.now)) }
+        ++ outcome_notes (outcome_in (context_view context.now) price.now)) }
 {
     let count = written.records.len();
     add_price(alloc, context, price, fields, &mut written.records, notes)?;
@@ -267,8 +263,7 @@ fn written_in<'a>(
     notes: &mut Vec<Note<'a>>,
 ) -> Result<WrittenPrices<'a>, AllocError>
     ensures written { IfOk result (λ w. AreWritten (context_view context.now)
-        (composites (codes "Price") elements.now) w.records w.given.items
-        (places_view w.places.items) w.closed.items) }
+        (composites (codes "Price") elements.now) w.records w.given.items w.closed.items) }
     ensures notes { OnOk result (note_views notes.new.items ≡ note_views notes.old.items
         ++ all_notes (outcome_in (context_view context.now))
         (composites (codes "Price") elements.now)) }
@@ -306,57 +301,42 @@ pub(crate) fn supplier_of(alloc: Global, supplier: Pair<'_>) -> Result<Option<Te
     Ok(Some(text))
 }
 
-// Adds a note of this kind on the element of a line.
-fn push_foreign<'a>(
-    notes: &mut Vec<Note<'a>>,
-    line: &'a Line,
-    kind: Foreign,
-) -> Result<(), AllocError>
-    ensures { OnOk result (note_views notes.new.items ≡ note_views notes.old.items
-        ++ note (element_view line.now) (foreign kind []) ∷ []) }
-{
-    push_note(notes, line, Reason::foreign(kind, b""))
-}
-
-// Adds so many notes that a price that is computed of a Price is held back.
+// Adds so many asides that a price that is computed of a Price is held back.
 fn push_held<'a>(held: usize, line: &'a Line, notes: &mut Vec<Note<'a>>) -> Result<(), AllocError>
-    ensures { OnOk result (note_views notes.new.items ≡ note_views notes.old.items
-        ++ replicate held (note (element_view line.now) (foreign other.HeldBack []))) }
+    ensures { OnOk result (note_views notes.new.items ≡ note_views notes.old.items) }
 {
     let mut left = held;
     while left > 0 {
-        push_foreign(notes, line, Foreign::HeldBack)?;
+        push_aside(notes, line, Foreign::HeldBack, b"")?;
         left -= 1;
     }
     Ok(())
 }
 
-// Adds the notes on a Price of which that is said.
+// Adds the asides on a Price of which that is said.
 fn push_remarks<'a>(
     line: &'a Line,
     remarks: Remarks,
     notes: &mut Vec<Note<'a>>,
 ) -> Result<(), AllocError>
-    ensures { OnOk result (note_views notes.new.items ≡ note_views notes.old.items
-        ++ remark_notes (element_view line.now) remarks) }
+    ensures { OnOk result (note_views notes.new.items ≡ note_views notes.old.items) }
 {
     if remarks.is_unfitted {
-        push_foreign(notes, line, Foreign::NoTerm)?;
+        push_aside(notes, line, Foreign::NoTerm, b"")?;
     }
     if remarks.is_free {
-        push_foreign(notes, line, Foreign::NothingToPay)?;
+        push_aside(notes, line, Foreign::NothingToPay, b"")?;
     }
     push_held(remarks.held, line, notes)
 }
 
-// Adds the notes on Prices in these places, of each of which that is said.
+// Adds the asides on Prices in these places, of each of which that is said.
 fn push_all_remarks<'a>(
     places: &[Place<'a>],
     remarks: &[Remarks],
     notes: &mut Vec<Note<'a>>,
 ) -> Result<(), AllocError>
-    ensures { OnOk result (note_views notes.new.items ≡ note_views notes.old.items
-        ++ all_remark_notes (places_view places.now) remarks.now) }
+    ensures { OnOk result (note_views notes.new.items ≡ note_views notes.old.items) }
 {
     let mut rest = places;
     let mut left = remarks;
@@ -386,10 +366,8 @@ pub(crate) fn add_computed_prices<'a>(
         (option_copied supplier.entry) (context_view context.now)
         (composites (codes "Price") elements.now)) }
     ensures notes { OnOk result (note_views notes.new.items ≡ note_views notes.old.items
-        ++ (all_notes (outcome_in (context_view context.now))
-        (composites (codes "Price") elements.now)
-        ++ terms_notes terms.now (option_copied supplier.entry) (context_view context.now)
-        (composites (codes "Price") elements.now))) }
+        ++ all_notes (outcome_in (context_view context.now))
+        (composites (codes "Price") elements.now)) }
 {
     let alloc = *notes.allocator();
     let written = written_in(alloc, context, elements, fields, notes)?;

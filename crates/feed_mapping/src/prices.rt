@@ -6,10 +6,10 @@ ghost use Rattle.std.specs.Option.{option_copied, option_to_list};
 ghost use Rattle.std.specs.Str.{is_utf8};
 ghost use Rattle.feed_mapping.specs.Elements.{composites, first, text_or_empty};
 ghost use Rattle.feed_mapping.specs.Notes.{foreign, is_wrong, note_views, wrong};
-ghost use Rattle.feed_mapping.specs.Outcomes.{notes_below, outcome_notes, outcome_records};
+ghost use Rattle.feed_mapping.specs.Outcomes.{outcome_notes, outcome_records};
 ghost use Rattle.feed_mapping.specs.PriceViews.{AreOwned, reason_read, text_view};
 ghost use Rattle.feed_mapping.specs.Amounts.{amount_written, rounded_text};
-ghost use Rattle.feed_mapping.specs.Prices.{closed_reason, context_view, first_with_text, is_other_qualifier, is_taken, kind_in, last_reason, long_reason, narrowed, written_fields, early_reasons, eight_fields, fields_in, free_reason, is_for_others, is_limited, is_nothing, is_other, late_reasons, old_element, outcome_of, price_fields, price_outcome, price_reasons, right_days};
+ghost use Rattle.feed_mapping.specs.Prices.{AddsUnless, closed_reason, context_view, first_with_text, is_other_qualifier, is_taken, kind_in, last_reason, long_reason, narrowed, written_fields, early_reasons, eight_fields, fields_in, free_reason, is_for_others, is_limited, is_nothing, is_other, late_reasons, old_element, outcome_of, price_fields, price_outcome, price_reasons, right_days};
 ghost use Rattle.feed_mapping.specs.Records.{first_some, option_filter, parsed};
 ghost use Rattle.feed_mapping.specs.Territories.{AreRenamed, area_in, area_view};
 ghost use Rattle.feed_mapping.specs.declared.notes.Wrong.TheVariants.{OldElement};
@@ -616,17 +616,10 @@ fn add_known<'a>(
     records: &mut RecordBuffer,
     notes: &mut Vec<Note<'a>>,
 ) -> Result<Option<Reason<'a>>, AllocError>
-    ensures reason { area_view area.now ≡ area_in elements.now → days ≡ right_days elements.now
-        → IfOk result (λ reason. reason_read reason
-        ≡ last_reason (context_view context.now) elements.now) }
-    ensures records { area_view area.now ≡ area_in elements.now → days ≡ right_days elements.now
-        → OnOk result (records.new ≡ records.old ++ outcome_records
-        (outcome_of (last_reason (context_view context.now) elements.now)
-        (context_view context.now) elements.now)) }
-    ensures notes { area_view area.now ≡ area_in elements.now → days ≡ right_days elements.now
-        → OnOk result (note_views notes.new.items ≡ note_views notes.old.items ++ notes_below
-        (outcome_of (last_reason (context_view context.now) elements.now)
-        (context_view context.now) elements.now)) }
+    ensures { area_view area.now ≡ area_in elements.now → days ≡ right_days elements.now
+        → IfOk result (λ reason. AddsUnless (last_reason (context_view context.now) elements.now)
+        (context_view context.now) elements.now (reason_read reason) records.old records.new
+        (note_views notes.old.items) (note_views notes.new.items)) }
 {
     let alloc = *notes.allocator();
     let left_out = write_price(alloc, context, elements, area, days, fields, records)?;
@@ -646,15 +639,10 @@ fn add_priced<'a>(
     records: &mut RecordBuffer,
     notes: &mut Vec<Note<'a>>,
 ) -> Result<Option<Reason<'a>>, AllocError>
-    ensures reason { IfOk result (λ reason. reason_read reason
-        ≡ first_some (price_reasons (context_view context.now) elements.now)) }
-    ensures records { OnOk result (records.new ≡ records.old ++ outcome_records (outcome_of
+    ensures { IfOk result (λ reason. AddsUnless
         (first_some (price_reasons (context_view context.now) elements.now))
-        (context_view context.now) elements.now)) }
-    ensures notes { OnOk result (note_views notes.new.items ≡ note_views notes.old.items
-        ++ notes_below (outcome_of
-        (first_some (price_reasons (context_view context.now) elements.now))
-        (context_view context.now) elements.now)) }
+        (context_view context.now) elements.now (reason_read reason) records.old records.new
+        (note_views notes.old.items) (note_views notes.new.items)) }
 {
     let area = area_in(elements);
     let dated = days_in(elements);
@@ -702,8 +690,7 @@ pub(crate) fn add_price<'a>(
     ensures records { OnOk result (records.new ≡ records.old
         ++ outcome_records (price_outcome (context_view context.now) price.now.below)) }
     ensures notes { OnOk result (note_views notes.new.items ≡ note_views notes.old.items
-        ++ outcome_notes price.now.element
-        (price_outcome (context_view context.now) price.now.below)) }
+        ++ outcome_notes (price_outcome (context_view context.now) price.now.below)) }
 {
     if is_nothing(context, &price.below) {
         return Ok(());

@@ -1,18 +1,18 @@
 //! The records of a Product and of its supplies.
 
 ghost use Rattle.std.specs.Prelude.{◌≡◌, ◌++◌, ◌∷◌, ◌<◌, [], None, IfOk, OnOk, option_map};
-ghost use Rattle.feed_mapping.specs.Notes.{note, note_views};
+ghost use Rattle.feed_mapping.specs.Notes.{note_views};
 ghost use Rattle.feed_mapping.specs.Outcomes.{all_notes, all_records};
 ghost use Rattle.feed_mapping.specs.PartyViews.{pair_view};
 ghost use Rattle.feed_mapping.specs.PriceViews.{reason_read};
-ghost use Rattle.feed_mapping.specs.ProductRecords.{fate_of, is_alone, is_followed, notes_behind, notification_written, product_notes, product_records, fate_by, records_by, supplies_in, too_large_notes, why_emptied, written_notes};
+ghost use Rattle.feed_mapping.specs.ProductRecords.{fate_of, is_alone, notes_behind, notification_written, product_notes, product_records, fate_by, records_by, supplies_in, too_large_notes, why_emptied, written_notes};
 ghost use Rattle.feed_mapping.specs.Supplies.{supplies_reason, supply_in};
 ghost use Rattle.std.specs.Option.{option_map_or};
-ghost use Rattle.feed_mapping.specs.Products.{bare_record, has_isbn, dropping, notification_in, own_reason, product_record, right_pairs};
+ghost use Rattle.feed_mapping.specs.Products.{bare_record, dropping, notification_in, own_reason, product_record, right_pairs};
 ghost use Rattle.feed_mapping.specs.SupplyChoices.{supply_choices_view};
 
 use crate::elements::Composite;
-use crate::notes::{Foreign, Note, Reason, Wrong, push_note, push_reason};
+use crate::notes::{Foreign, Note, Reason, Wrong, push_aside, push_note};
 use crate::other_suppliers::is_of_others;
 use crate::parties::Pair;
 use crate::products::{
@@ -39,9 +39,8 @@ pub enum Fate {
     LeftOut,
 }
 
-fn is_followed(notification: &[u8]) -> bool
-    ensures { result ≡ is_followed notification.now }
-{
+// Whether the desk does not ignore a product of this NotificationType.
+fn is_followed(notification: &[u8]) -> bool {
     notification == b"01".as_slice()
         || notification == b"02".as_slice()
         || notification == b"03".as_slice()
@@ -63,22 +62,16 @@ fn push_written_notes<'a>(
     product: &Composite<'a>,
     notes: &mut Vec<Note<'a>>,
 ) -> Result<(), AllocError>
-    ensures { is_found ≡ has_isbn product.now.below
-        → OnOk result (note_views notes.new.items ≡ note_views notes.old.items
-        ++ written_notes (option_map pair_view supplier.entry)
-        product.now.below product.now.element) }
+    ensures { OnOk result (note_views notes.new.items ≡ note_views notes.old.items
+        ++ written_notes (option_map pair_view supplier.entry) product.now.below) }
 {
     let elements = &product.below;
     let notification = notification_in(elements);
     if !is_deletion(elements) && !is_found {
-        push_note(notes, product.line, Reason::foreign(Foreign::NoIsbn, b""))?;
+        push_aside(notes, product.line, Foreign::NoIsbn, b"")?;
     }
     if !is_followed(notification) {
-        push_note(
-            notes,
-            product.line,
-            Reason::foreign(Foreign::Ignored, notification),
-        )?;
+        push_aside(notes, product.line, Foreign::Ignored, notification)?;
     }
     if is_alone(supplier, elements) {
         push_note(notes, product.line, Reason::foreign(Foreign::OfOthers, b""))?;
@@ -161,9 +154,8 @@ fn add_sound<'a>(
         (supplies_reason opening.now (supply_choices_view choices.now)
         (supplies_in product.now.below))
         product.now.below) }
-    ensures notes { identifiers.now.has_isbn ≡ has_isbn product.now.below
-        → OnOk result (note_views notes.new.items ≡ note_views notes.old.items
-        ++ notes_behind opening.now (supply_choices_view choices.now) product.now) }
+    ensures notes { OnOk result (note_views notes.new.items ≡ note_views notes.old.items
+        ++ notes_behind opening.now (supply_choices_view choices.now) product.now.below) }
 {
     let alloc = *notes.allocator();
     let count = records.len();
@@ -208,11 +200,10 @@ fn add_standing<'a>(
         (why_emptied opening.now (supply_choices_view choices.now) product.now.below)
         product.now.below) }
     ensures notes { identifiers.now.pairs ≡ right_pairs product.now.below
-        → identifiers.now.has_isbn ≡ has_isbn product.now.below
         → OnOk result (note_views notes.new.items ≡ note_views notes.old.items
-        ++ option_map_or (λ reason. note product.now.element reason ∷ [])
+        ++ option_map_or (λ reason. reason ∷ [])
         (own_reason (supply_choices_view choices.now).supplier product.now.below)
-        (notes_behind opening.now (supply_choices_view choices.now) product.now)) }
+        (notes_behind opening.now (supply_choices_view choices.now) product.now.below)) }
 {
     match own_reason(choices.supplier, &identifiers.pairs, &product.below) {
         Some(reason) => {
@@ -259,7 +250,7 @@ pub fn add_product<'a>(
         ++ product_records opening.now (supply_choices_view choices.now) product.now.below) }
     ensures notes { OnOk result (note_views notes.new.items
         ≡ note_views notes.old.items
-        ++ product_notes opening.now (supply_choices_view choices.now) product.now) }
+        ++ product_notes opening.now (supply_choices_view choices.now) product.now.below) }
 {
     let reference = reference_in(&product.below);
     if !is_field(reference) {
@@ -286,7 +277,7 @@ pub fn push_too_large<'a>(
     notes: &mut Vec<Note<'a>>,
 ) -> Result<(), AllocError>
     ensures { OnOk result (note_views notes.new.items
-        ≡ note_views notes.old.items ++ too_large_notes product.now) }
+        ≡ note_views notes.old.items ++ too_large_notes product.now.below) }
 {
     take_identifiers(alloc, &product.below, notes)?;
     push_note(notes, product.line, Reason::wrong(Wrong::TooLarge, b""))

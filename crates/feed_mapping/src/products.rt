@@ -269,7 +269,6 @@ pub(crate) fn take_identifiers<'a>(
     notes: &mut Vec<Note<'a>>,
 ) -> Result<Identifiers, AllocError>
     ensures pairs { IfOk result (λ i. i.pairs ≡ right_pairs elements.now) }
-    ensures isbn { IfOk result (λ i. i.has_isbn ≡ has_isbn elements.now) }
     ensures notes { OnOk result (note_views notes.new.items
         ≡ note_views notes.old.items ++ identifier_notes elements.now) }
 {

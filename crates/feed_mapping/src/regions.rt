@@ -2,15 +2,13 @@
 
 ghost use Rattle.std.specs.Prelude.{◌≡◌, ◌++◌, ◌<◌, IfOk, IfSome, OnOk, length, map, option_map};
 ghost use Rattle.std.specs.List.{list_all, list_any};
-ghost use Rattle.feed_mapping.specs.Elements.{element_view};
 ghost use Rattle.feed_mapping.specs.Notes.{note_views};
-ghost use Rattle.feed_mapping.specs.Regions.{IsRenamed, country_code, countries_written, is_other_name, other_names, spaced};
-ghost use Rattle.feed_mapping.specs.Territories.{region_notes, word_notes};
-ghost use Rattle.feed_mapping.specs.declared.notes.Foreign.TheVariants.{CountryName};
+ghost use Rattle.feed_mapping.specs.Regions.{IsRenamed, country_code, countries_written, is_other_name, spaced};
+ghost use Rattle.feed_mapping.specs.Territories.{region_notes};
 ghost use Rattle.onix_terms.specs.Territory.{words_of};
-ghost use Rattle.feed_mapping.specs.Regions.{first_region, first_space, front_to, is_two_letters, two_letters_in, is_capital_or_digit, is_part_of_country, is_world, names_world, other_regions, region_of_no_country, rest_from, IsNextWord};
+ghost use Rattle.feed_mapping.specs.Regions.{first_region, first_space, front_to, is_two_letters, two_letters_in, is_capital_or_digit, is_part_of_country, is_world, names_world, region_of_no_country, rest_from, IsNextWord};
 
-use crate::notes::{Foreign, Note, Reason, Wrong, push_note};
+use crate::notes::{Foreign, Note, Reason, Wrong, push_aside, push_note};
 use feed_outline::Line;
 use std::alloc::{AllocError, Global};
 
@@ -152,18 +150,15 @@ pub(crate) fn push_regions<'a>(
     kind: Foreign,
     text: &'a [u8],
 ) -> Result<(), AllocError>
-    ensures { OnOk result (note_views notes.new.items ≡ note_views notes.old.items
-        ++ region_notes (element_view line.now) kind (other_regions text.now)) }
+    ensures { OnOk result
+        (note_views notes.new.items ≡ note_views notes.old.items ++ region_notes text.now) }
 {
     let mut rest = text;
     while let Some((region, behind)) = next_word(rest) {
-        if !is_world(region) {
-            let reason = if is_two_letters(region) {
-                Reason::wrong(Wrong::CountryAsRegion, region)
-            } else {
-                Reason::foreign(kind, region)
-            };
-            push_note(notes, line, reason)?;
+        if is_two_letters(region) {
+            push_note(notes, line, Reason::wrong(Wrong::CountryAsRegion, region))?;
+        } else if !is_world(region) {
+            push_aside(notes, line, kind, region)?;
         }
         rest = behind;
     }
@@ -183,13 +178,12 @@ pub(crate) fn push_other_names<'a>(
     line: &'a Line,
     text: &'a [u8],
 ) -> Result<(), AllocError>
-    ensures { OnOk result (note_views notes.new.items ≡ note_views notes.old.items
-        ++ word_notes (element_view line.now) CountryName (other_names text.now)) }
+    ensures { OnOk result (note_views notes.new.items ≡ note_views notes.old.items) }
 {
     let mut rest = text;
     while let Some((country, behind)) = next_word(rest) {
         if is_other_name(country) {
-            push_note(notes, line, Reason::foreign(Foreign::CountryName, country))?;
+            push_aside(notes, line, Foreign::CountryName, country)?;
         }
         rest = behind;
     }

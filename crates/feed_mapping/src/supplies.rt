@@ -1,13 +1,12 @@
 //! The supplies of a Product.
 
-ghost use Rattle.std.specs.Prelude.{◌≡◌, ◌++◌, ◌<◌, None, IfOk, OnOk, codes, option_map};
-ghost use Rattle.feed_mapping.specs.Elements.{Element, composites, element_view};
+ghost use Rattle.std.specs.Prelude.{◌≡◌, ◌++◌, ◌<◌, None, IfOk, OnOk, codes};
+ghost use Rattle.feed_mapping.specs.Elements.{composites};
 ghost use Rattle.feed_mapping.specs.Notes.{note_views, reason_view};
 ghost use Rattle.feed_mapping.specs.Outcomes.{Outcome, all_notes, all_records, notes_below, outcome_notes, outcome_reason, outcome_records};
-ghost use Rattle.feed_mapping.specs.PartyViews.{pair_view};
 ghost use Rattle.feed_mapping.specs.PriceViews.{reason_read};
 ghost use Rattle.feed_mapping.specs.Records.{option_filter};
-ghost use Rattle.feed_mapping.specs.Supplies.{detail_in, details_in, detailed_outcome, first_lost, first_reason, is_lost, none_left, supplies_reason, supply_in, supply_outcome};
+ghost use Rattle.feed_mapping.specs.Supplies.{detail_in, details_in, detailed_outcome, first_lost, is_lost, none_left, supplies_reason, supply_in, supply_outcome};
 ghost use Rattle.feed_mapping.specs.SupplyChoices.{supply_choices_view};
 
 use crate::details::{add_detail, first_detail_reason};
@@ -38,7 +37,7 @@ fn add_one_detail<'a>(
         ≡ records.old
         ++ outcome_records (detail_in opening.now (supply_choices_view choices.now) detail.now)) }
     ensures notes { OnOk result (note_views notes.new.items ≡ note_views notes.old.items
-        ++ outcome_notes detail.now.element
+        ++ outcome_notes
         (detail_in opening.now (supply_choices_view choices.now) detail.now)) }
 {
     let left_out = add_detail(
@@ -151,11 +150,10 @@ fn push_outcome<'a>(
     left_out: Option<Reason<'a>>,
     below: &Vec<Note<'a>>,
 ) -> Result<(), AllocError>
-    ensures { (element : Element) (outcome : Outcome) → element_view line.now ≡ element
-        → reason_read left_out.entry ≡ outcome_reason outcome
+    ensures { (outcome : Outcome) → reason_read left_out.entry ≡ outcome_reason outcome
         → (left_out.entry ≡ None → note_views below.now.items ≡ notes_below outcome)
         → OnOk result (note_views notes.new.items
-        ≡ note_views notes.old.items ++ outcome_notes element outcome) }
+        ≡ note_views notes.old.items ++ outcome_notes outcome) }
 {
     match left_out {
         None => notes.extend_from_slice(below),
@@ -180,7 +178,7 @@ fn add_one_supply<'a>(
         ≡ records.old
         ++ outcome_records (supply_in opening.now (supply_choices_view choices.now) supply.now)) }
     ensures notes { OnOk result (note_views notes.new.items ≡ note_views notes.old.items
-        ++ outcome_notes supply.now.element
+        ++ outcome_notes
         (supply_in opening.now (supply_choices_view choices.now) supply.now)) }
 {
     let mut below: Vec<Note<'a>> = Vec::new(alloc);
@@ -289,18 +287,15 @@ pub(crate) fn add_supplies<'a>(
 }
 
 /// Why the first is left out of the Markets or of the SupplyDetails of a ProductSupply that count,
-/// whose elements these are, where it is left out for a reason of this kind, since all of them are.
+/// whose elements these are, where it is left out for a reason of this kind, since all of them are:
+/// words for a person, of which no clause tells.
 pub fn first_reason<'a>(
     alloc: Global,
     supplier: Option<Pair<'_>>,
     preferred: &[u8],
     kind: ReasonKind,
     elements: &Elements<'a>,
-) -> Result<Option<Reason<'a>>, AllocError>
-    ensures { IfOk result
-        (λ reason. reason_read reason ≡ first_reason (option_map pair_view supplier.entry)
-        preferred.now kind elements.now) }
-{
+) -> Result<Option<Reason<'a>>, AllocError> {
     match kind {
         ReasonKind::Wrong(Wrong::NoDetailLeft) => {
             first_detail_reason(alloc, supplier, preferred, elements)

@@ -9,13 +9,11 @@ use Rattle.std.proofs.lemmas.Grind.{flat_map-append}
 use Rattle.feed_outline.specs.Names.{Word}
 use Rattle.feed_xml.specs.declared.fault.Fault.{Fault as DocumentFault}
 use Rattle.feed_xml.specs.declared.fault.Fault.TheVariants.{Malformed, NotText, TooDeep, TooLong, LargeTag, Refused, UnknownEncoding, Read, Memory}
-use Rattle.feed_xml.specs.declared.position.Position.{Position}
 use Rattle.feed_xml.specs.Grammar.{Token, is_token, spelling}
-use Rattle.feed_xml.specs.Faults.{Tells, TookTo}
+use Rattle.feed_xml.specs.Faults.{GoesTo, Tells}
 use Rattle.feed_xml.specs.Documents.{AreFront, IsDocument}
-use Rattle.feed_xml.specs.Positions.{first_position, position_past}
 use Rattle.feed_xml.specs.EncodingNames.{IsTextOf, OfText}
-use Rattle.feed_xml.specs.Limits.{BeginsWith, Bound, Follows, Meets, IsDeep, IsGarbled, IsLarge, IsLong, NoneMayStand}
+use Rattle.feed_xml.specs.Limits.{BeginsWith, Bound, Follows, Meets}
 use Rattle.feed_xml.specs.Tree.{Content}
 use Rattle.feed_xml.specs.Trees.{AreDocument, IsTree}
 use Rattle.feed_outline.specs.declared.dialect.Wrong.{Wrong}
@@ -24,28 +22,27 @@ use Rattle.feed_outline.specs.declared.message_reading.Stopped.{Stopped}
 use Rattle.feed_outline.specs.Dialect.{Dialect}
 use Rattle.feed_outline.specs.Nodes.{is_known, nodes_in}
 use Rattle.feed_outline.specs.Outline.{Line, parts_of}
-use Rattle.feed_outline.specs.Sizes.{first_large}
-use Rattle.feed_outline.specs.private.Feed.{Feed, feed, first_feed, fits, is_sound, is_sound_with, takes_more, takes_more_with}
-use Rattle.feed_outline.specs.Roots.{root_of, root_place}
-use Rattle.feed_outline.specs.Faults.{Explains, IsLargeAt, IsRefusedRoot, IsUnknown, Refuses}
+use Rattle.feed_outline.specs.Sizes.{has_large}
+use Rattle.feed_outline.specs.private.Feed.{Feed, feed, first_feed, fits, takes_more, takes_more_with}
+use Rattle.feed_outline.specs.Roots.{root_of}
+use Rattle.feed_outline.specs.Faults.{Explains, IsRefusedRoot, IsTooLarge, IsUnknown}
 use Rattle.feed_outline.specs.private.Reasons.{RefusesReference, RefusesRoot}
-use Rattle.feed_outline.specs.private.Finishing.{finished, finished_with, first_place_of, is_of_text}
+use Rattle.feed_outline.specs.private.Finishing.{finished, finished_with}
 use Rattle.feed_outline.specs.Message.{IsMessage}
 use Rattle.feed_outline.proofs.FeedLaws.{tree_feeds}
 use Rattle.feed_outline.proofs.KnownLaws.{has_root, known_front, known_tree}
-use Rattle.feed_outline.proofs.LargeLaws.{is_stuck, stuck_large}
-use Rattle.feed_outline.proofs.RefusalLaws.{Finds, finds_root, finds_unknown, places, roots}
+use Rattle.feed_outline.proofs.RefusalLaws.{Finds, finds_root, finds_unknown, roots}
 use Rattle.feed_outline.proofs.TreeLaws.{is_large, tree_kept}
 
 -- a message was read
 abbrev pub Reads : (vocabulary : List Word) {T : Type 0} → (T → List Line → T) → T → Option (List ℕ) → T → Type 0
 Reads vocabulary after taker bytes taken =
-    (text : List ℕ) × (d : Dialect) × (place : Position) × (inside : Content) × IsTextOf bytes text × IsMessage vocabulary text d place inside × (taken ≡ fold after taker (parts_of (nodes_in vocabulary d [] place inside)))
+    (text : List ℕ) × (d : Dialect) × (inside : Content) × IsTextOf bytes text × IsMessage vocabulary text d inside × (taken ≡ fold after taker (parts_of (nodes_in vocabulary d [] inside)))
 
 -- what a call gave is one of the two
 pub record Comes (vocabulary : List Word) {T : Type 0} (after : T → List Line → T) (taker : T) (bytes : Option (List ℕ)) (result : Result T (Stopped T)) : Type 0 where
   pub ok : IfOk result (Reads vocabulary after taker bytes)
-  pub refused : IfErr result (λ s. Explains vocabulary bytes s.fault s.place)
+  pub refused : IfErr result (λ s. Explains vocabulary bytes s.fault)
 
 -- a document begins with all of its tokens
 all_tokens : (bytes : Option (List ℕ)) (text : List ℕ) (tokens : List Token) → IsTextOf bytes text → IsDocument text tokens → OfText (BeginsWith tokens) bytes
@@ -83,10 +80,10 @@ begins_before Limit before behind tokens token (Some b) parts holds begins =
     let follows : Follows token (spelling token ++ later) = (later, refl, (and_parts _ _ each).0) in
     (text, begins.1, (spelling token ++ later, whole, (token ∷ (behind ++ front.0), are), holds (spelling token ++ later) follows))
 
-place_of : (vocabulary : List Word) (P : List Token → Token → Type 0) (Limit : Bound) → ((before : List Token) (token : Token) (rest : List ℕ) → P before token → Follows token rest → Limit before rest)
-    → (bytes : Option (List ℕ)) (tokens : List Token) (place : Position) → OfText (BeginsWith tokens) bytes → Finds P first_position tokens place → Refuses vocabulary bytes Limit place
-place_of vocabulary P Limit holds bytes tokens place begins h =
-    (h.before, begins_before Limit h.before h.behind tokens h.token bytes h.parts (λ rest follows. holds h.before h.token rest h.holds follows) begins, h.at)
+reason_of : (P : List Token → Token → Type 0) (Limit : Bound) → ((before : List Token) (token : Token) (rest : List ℕ) → P before token → Follows token rest → Limit before rest)
+    → (bytes : Option (List ℕ)) (tokens : List Token) → OfText (BeginsWith tokens) bytes → Finds P tokens → GoesTo bytes Limit
+reason_of P Limit holds bytes tokens begins h =
+    (h.before, begins_before Limit h.before h.behind tokens h.token bytes h.parts (λ rest follows. holds h.before h.token rest h.holds follows) begins)
 
 at_root : (wrong : Wrong) (before : List Token) (token : Token) (rest : List ℕ) → RefusesRoot wrong before token → Follows token rest → IsRefusedRoot wrong before rest
 at_root wrong before token rest h follows = (h.0, (token, follows, h.1))
@@ -114,23 +111,19 @@ refuses vocabulary {T = T} after taker bytes tokens begins refused = go f.root r
     go None e k known small size r = absurd cc
     go (Some (Err w)) e k known small size r = record {
       ok = tt;
-      refused = place_of vocabulary (RefusesRoot w) (IsRefusedRoot w) (at_root w) bytes tokens f.place begins (finds_root vocabulary after (first_feed taker) tokens w refl e);
+      refused = reason_of (RefusesRoot w) (IsRefusedRoot w) (at_root w) bytes tokens begins (finds_root tokens w (sym root_is ∙ e));
     }
     go (Some (Ok d)) e true known true size r = absurd cc
     go (Some (Ok d)) e true known false size r =
-        let place = first_place_of f.child.lines f.place in
         let root = sym root_is ∙ e in
         record {
           ok = tt;
-          refused = (tokens, holds_there (IsLargeAt vocabulary place) tokens bytes (λ rest front. is_large vocabulary after taker d tokens place rest root (known_there d root known front) (is_stuck f.child f.place size)) begins);
+          refused = (tokens, holds_there (IsTooLarge vocabulary) tokens bytes (λ rest front. is_large vocabulary after taker d tokens rest root (known_there d root known front) size) begins);
         }
-    go (Some (Ok d)) e false known small size r =
-        let unsound : is_sound f ≡ false = ap (λ o. is_sound_with o f.known) e ∙ known in
-        let h = finds_unknown vocabulary after (first_feed taker) tokens refl known unsound (λ w x. absurd (cc (sym e ∙ x))) in
-        record {
-          ok = tt;
-          refused = place_of vocabulary RefusesReference IsUnknown at_reference bytes tokens f.place begins h;
-        }
+    go (Some (Ok d)) e false known small size r = record {
+      ok = tt;
+      refused = reason_of RefusesReference IsUnknown at_reference bytes tokens begins (finds_unknown vocabulary after (first_feed taker) tokens refl known);
+    }
 
 -- ---- a document
 
@@ -151,18 +144,14 @@ comes vocabulary {T = T} after taker bytes text tokens name inside is document t
     f : Feed T
     f = fold (feed vocabulary after) (first_feed taker) tokens
 
-    place : Position
-    place = root_place first_position tokens
-
     root_is : f.root ≡ root_of tokens
     root_is = roots vocabulary after (first_feed taker) tokens
 
-    taken : (d : Dialect) → root_of tokens ≡ Some (Ok d) → list_all is_known tokens ≡ true → fits f.child ≡ true → (o : Option Position) → first_large (nodes_in vocabulary d [] place inside) ≡ o
+    taken : (d : Dialect) → root_of tokens ≡ Some (Ok d) → list_all is_known tokens ≡ true → fits f.child ≡ true → (o : Bool) → has_large (nodes_in vocabulary d [] inside) ≡ o
         → Reads vocabulary after taker bytes f.taker
-    taken d e known size None small = (
+    taken d e known size false small = (
       text,
       d,
-      place,
       inside,
       is,
       record {
@@ -171,14 +160,12 @@ comes vocabulary {T = T} after taker bytes text tokens name inside is document t
         document = document;
         tree = tree;
         root = e;
-        begins = refl;
         known = known;
         fits = small;
       },
       ap (λ g. g.taker) (tree_feeds vocabulary after taker d tokens name inside tree e known small),
     )
-    taken d e known size (Some q) large =
-        absurd (cc (sym size ∙ stuck_large q f.child (tree_kept vocabulary after taker d tokens name inside q tree e known large)))
+    taken d e known size true large = absurd (cc (sym size ∙ tree_kept vocabulary after taker d tokens name inside tree e known large))
 
     by_refusal : (o : Option (Result Dialect Wrong)) → f.root ≡ o → (k : Bool) → f.known ≡ k → (small : Bool) → fits f.child ≡ small → takes_more_with o k small ≡ false
         → (takes_more f ≡ false → Comes vocabulary after taker bytes (finished f)) → Comes vocabulary after taker bytes (finished_with o k small f)
@@ -191,60 +178,19 @@ comes vocabulary {T = T} after taker bytes text tokens name inside is document t
     go (Some (Err w)) e k known small size refused = by_refusal (Some (Err w)) e k known small size refl refused
     go (Some (Ok d)) e true known true size refused =
         let root = sym root_is ∙ e in
-        record { ok = taken d root (known_tree vocabulary after taker d tokens name inside tree root known) size (first_large (nodes_in vocabulary d [] place inside)) refl; refused = tt }
+        record { ok = taken d root (known_tree vocabulary after taker d tokens name inside tree root known) size (has_large (nodes_in vocabulary d [] inside)) refl; refused = tt }
     go (Some (Ok d)) e true known false size refused = by_refusal (Some (Ok d)) e true known false size refl refused
     go (Some (Ok d)) e false known small size refused = by_refusal (Some (Ok d)) e false known small size refl refused
 
--- ---- a document that was not read to its end
-
-pub takes_sound : {T : Type 0} (f : Feed T) → takes_more f ≡ true → is_sound f ≡ true
-takes_sound f h = go f.root f.known (fits f.child) h
-  where
-    go : (o : Option (Result Dialect Wrong)) (k small : Bool) → takes_more_with o k small ≡ true → is_sound_with o k ≡ true
-    go None k small h = refl
-    go (Some (Err w)) k small h = h
-    go (Some (Ok d)) true small h = refl
-    go (Some (Ok d)) false small h = h
-
--- a text that begins with tokens of which something holds begins with them
-begins_only : (Limit : Bound) (tokens : List Token) (bytes : Option (List ℕ)) → OfText (Meets Limit tokens) bytes → OfText (BeginsWith tokens) bytes
-begins_only Limit tokens None h = tt
-begins_only Limit tokens (Some b) h = let m = h.2 in (h.0, h.1, (m.0, m.1, m.2, tt))
-
--- what was taken where reading stopped
-pub taken_behind : {S : Type 0} (after : S → Token → S) (bytes : Option (List ℕ)) (old new : S) (goes_on : S → Bool) (fault : DocumentFault) → is_of_text fault ≡ true → Tells after bytes old new goes_on fault
-    → (tokens : List Token) × OfText (BeginsWith tokens) bytes × (new ≡ fold after old tokens)
-taken_behind after bytes old new goes_on Malformed e t = let w = t.1 in (w.0, begins_only NoneMayStand w.0 bytes w.1, w.2)
-taken_behind after bytes old new goes_on NotText e t = let w = t.1 in (w.0, begins_only IsGarbled w.0 bytes w.1, w.2)
-taken_behind after bytes old new goes_on TooDeep e t = (t.0, begins_only IsDeep t.0 bytes t.1, t.2)
-taken_behind after bytes old new goes_on TooLong e t = (t.0, begins_only IsLong t.0 bytes t.1, t.2)
-taken_behind after bytes old new goes_on LargeTag e t = (t.0, begins_only IsLarge t.0 bytes t.1, t.2)
-taken_behind after bytes old new goes_on Refused e t = t.1
-taken_behind after bytes old new goes_on (UnknownEncoding name) e t = absurd cc
-taken_behind after bytes old new goes_on Read e t = absurd cc
-taken_behind after bytes old new goes_on Memory e t = absurd cc
-
--- while more is taken, the next token stands behind those that were
-place_is : (vocabulary : List Word) {T : Type 0} (after : T → List Line → T) (taker : T) (f : Feed T) (tokens : List Token) → takes_more f ≡ true → f ≡ fold (feed vocabulary after) (first_feed taker) tokens
-    → f.place ≡ position_past first_position tokens
-place_is vocabulary after taker f tokens more is =
-    ap (λ g. g.place) is ∙ places vocabulary after (first_feed taker) tokens (takes_sound (fold (feed vocabulary after) (first_feed taker) tokens) (sym (ap takes_more is) ∙ more))
-
--- a document that was read while more was taken is refused for a reason, and there
-pub document_explained : (vocabulary : List Word) {T : Type 0} (after : T → List Line → T) (bytes : Option (List ℕ)) (taker : T) (start f : Feed T) (fault : DocumentFault) → start ≡ first_feed taker
-    → (is_of_text fault ≡ true → takes_more f ≡ true) → Tells (feed vocabulary after) bytes start f takes_more fault → Explains vocabulary bytes (Document fault) f.place
-document_explained vocabulary {T = T} after bytes taker start f fault starts takes told = go fault takes told
-  where
-    at : (Limit : Bound) → takes_more f ≡ true → TookTo (feed vocabulary after) bytes start f Limit → Refuses vocabulary bytes Limit f.place
-    at Limit more w = (w.0, w.1, place_is vocabulary after taker f w.0 more (w.2 ∙ ap (λ g. fold (feed vocabulary after) g w.0) starts))
-
-    go : (e : DocumentFault) → (is_of_text e ≡ true → takes_more f ≡ true) → Tells (feed vocabulary after) bytes start f takes_more e → Explains vocabulary bytes (Document e) f.place
-    go Malformed t w = (w.0, at NoneMayStand (t refl) w.1)
-    go NotText t w = (w.0, at IsGarbled (t refl) w.1)
-    go TooDeep t w = at IsDeep (t refl) w
-    go TooLong t w = at IsLong (t refl) w
-    go LargeTag t w = at IsLarge (t refl) w
-    go Refused t w = absurd (cc (sym (t refl) ∙ w.0))
-    go (UnknownEncoding name) t w = (w.0, ap (λ g. g.place) (w.1 ∙ starts))
-    go Read t w = tt
-    go Memory t w = tt
+-- a document that was not read to its end, and not for the sink
+pub document_explained : (vocabulary : List Word) {T : Type 0} (after : T → List Line → T) (bytes : Option (List ℕ)) (old new : Feed T) (fault : DocumentFault) → (fault ≡ Refused → ⊥)
+    → Tells (feed vocabulary after) bytes old new takes_more fault → Explains vocabulary bytes (Document fault)
+document_explained vocabulary after bytes old new Malformed other told = told
+document_explained vocabulary after bytes old new NotText other told = told
+document_explained vocabulary after bytes old new TooDeep other told = told
+document_explained vocabulary after bytes old new TooLong other told = told
+document_explained vocabulary after bytes old new LargeTag other told = told
+document_explained vocabulary after bytes old new Refused other told = absurd (other refl)
+document_explained vocabulary after bytes old new (UnknownEncoding name) other told = told
+document_explained vocabulary after bytes old new Read other told = tt
+document_explained vocabulary after bytes old new Memory other told = tt

@@ -2,7 +2,6 @@
 use Rattle.std.specs.Prelude.{◌≡◌, ℕ, List, [], ◌∷◌, ◌++◌, Option, Some, None, refl}
 use Rattle.std.specs.Coded.{Coded, code_by, coded×, coded_list, coded_option, coded_ℕ}
 use Rattle.std.proofs.Common.{◌∙◌, sym, ap, append-nil, append_assoc}
-use Rattle.feed_xml.specs.declared.position.Position.{Position}
 use Rattle.feed_outline.specs.Nodes.{Nodes, Tag, no_nodes, node}
 
 -- an element by itself: its name, its tag and its text
@@ -45,19 +44,13 @@ tree_told nodes =
     ap (λ es. first_tree (trees_of es)) (sym (append-nil (marked nodes)))
     ∙ ap first_tree (trees_told nodes [])
 
--- a place is its line and its column
-abbrev pub place_code : Coded Position
-place_code =
-    code_by (ℕ × ℕ) (coded× coded_ℕ coded_ℕ) (λ p. (p.line, p.column))
-    (λ c. record { line = c.0; column = c.1 }) (λ _. refl)
-
 abbrev pub text_code : Coded (List ℕ)
 text_code = coded_list coded_ℕ
 
 abbrev pub tag_code : Coded Tag
 tag_code =
-    code_by (Position × Option (List ℕ)) (coded× place_code (coded_option text_code))
-    (λ t. (t.place, t.format)) (λ c. record { place = c.0; format = c.1 }) (λ _. refl)
+    code_by (Option (List ℕ)) (coded_option text_code) (λ t. t.format)
+    (λ c. record { format = c }) (λ _. refl)
 
 abbrev pub nodes_code : Coded Nodes
 nodes_code =

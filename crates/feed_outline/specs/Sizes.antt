@@ -1,8 +1,6 @@
 -- How large a Header or a Product may be.
-use Rattle.std.specs.Prelude.{ℕ, ◌+◌, Bool, nat_le, List, [], ◌∷◌, length, Option, Some, None}
+use Rattle.std.specs.Prelude.{ℕ, ◌+◌, Bool, false, not, ◌||◌, nat_le, List, [], ◌∷◌, length}
 use Rattle.std.specs.Prelude.{unwrap_or}
-use Rattle.std.specs.Prelude.{if◌then◌else◌}
-use Rattle.feed_xml.specs.declared.position.Position.{Position}
 use Rattle.feed_outline.specs.Nodes.{Nodes, no_nodes, node, Tag}
 use Rattle.feed_outline.specs.Outline.{Line}
 
@@ -25,9 +23,8 @@ lines_size (l ∷ lines) = element_size l.tag l.text + lines_size lines
 abbrev pub is_small : ℕ → Bool
 is_small size = nat_le size 4194304
 
--- where the first of the elements stands that is larger, with all that is in it
-abbrev pub first_large : Nodes → Option Position
-first_large no_nodes = None
-first_large (node name tag text below rest) =
-    if is_small (element_size tag text + nodes_size below) then first_large rest
-    else Some tag.place
+-- one of the elements is larger, with all that is in it
+abbrev pub has_large : Nodes → Bool
+has_large no_nodes = false
+has_large (node name tag text below rest) =
+    not (is_small (element_size tag text + nodes_size below)) || has_large rest

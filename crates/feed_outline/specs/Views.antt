@@ -11,7 +11,7 @@ use Rattle.feed_outline.specs.Names.{Word as Spelled}
 
 -- the tag of a line's element
 abbrev pub tag_view : Line → Tag
-tag_view l = record { place = l.place; format = option_map (λ f. f.items) l.format }
+tag_view l = record { format = option_map (λ f. f.items) l.format }
 
 -- a line, as its depth, its tag and its texts
 abbrev pub line_view : Line → Told

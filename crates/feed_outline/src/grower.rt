@@ -72,9 +72,9 @@ fn format_size(format: &Option<Vec<u8>>) -> usize
 }
 
 // The size of lines with one more, which has no text.
-fn size_with(size: usize, place: Position, format: &Option<Vec<u8>>) -> Result<usize, AllocError>
+fn size_with(size: usize, format: &Option<Vec<u8>>) -> Result<usize, AllocError>
     ensures { IfOk result (λ n. n ≡ size
-        + element_size (tagged place (option_map (λ f. f.items) format.now)) []) }
+        + element_size (tagged (option_map (λ f. f.items) format.now)) []) }
 {
     match size.checked_add(ELEMENT_BYTES) {
         None => Err(AllocError),
@@ -219,7 +219,7 @@ impl Grower {
     ) -> Result<(), AllocError>
         ensures { OnOk result (self.new ≡ opened self.old.passed
             (option_map (λ n. n.now) name.entry)
-            (tagged place (option_map (λ f. f.items) format))
+            (tagged (option_map (λ f. f.items) format))
             (binding_views bindings.items) self.old) }
     {
         if self.is_passing() {
@@ -245,10 +245,10 @@ impl Grower {
     ) -> Result<(), AllocError>
         requires { self.old.passed ≡ 0 }
         ensures { OnOk result (self.new ≡ opened 0 (Some name.now)
-            (tagged place (option_map (λ f. f.items) format))
+            (tagged (option_map (λ f. f.items) format))
             (binding_views bindings.items) self.old) }
     {
-        let size = size_with(self.size, place, &format)?;
+        let size = size_with(self.size, &format)?;
         let at = self.lines.len();
         let line = Line {
             depth: self.opens.len(),

@@ -1,11 +1,11 @@
 //! The tokens of a message, of which each element in the root becomes an outline.
 
-ghost use Rattle.std.specs.Prelude.{◌≡◌, [], IfOk, OnOk, true, unwrap_or, is_some};
+ghost use Rattle.std.specs.Prelude.{◌≡◌, [], IfOk, OnOk, true, fold, unwrap_or, is_some};
 ghost use Rattle.feed_xml.specs.References.{reference_text};
 ghost use Rattle.feed_xml.specs.Sections.{section_text};
-ghost use Rattle.feed_xml.specs.View.{token_view};
-ghost use Rattle.feed_outline.specs.private.Feed.{feeding, first_feed, begun, ended, emptied, spoken, handed, settled, told, moved, is_sound, takes_more};
-ghost use Rattle.feed_outline.specs.private.Finishing.{finished, first_place_of, stopped};
+ghost use Rattle.feed_xml.specs.View.{piece_view, token_view};
+ghost use Rattle.feed_outline.specs.private.Feed.{feeding, first_feed, begun, ended, emptied, feed, spoken, handed, settled, takes_more};
+ghost use Rattle.feed_outline.specs.private.Finishing.{finished, stopped};
 ghost use Rattle.feed_outline.specs.private.Growing.{closed};
 ghost use Rattle.feed_outline.specs.Views.{line_views};
 
@@ -17,8 +17,7 @@ use crate::names::Vocabulary;
 use crate::namespaces::bindings_of;
 use crate::refusal_hints::RefusalHints;
 use feed_xml::{
-    Attributes, Bytes, Piece, Position, Sink, Token, bracket_text, push_reference,
-    push_section_byte,
+    Attributes, Bytes, Piece, Sink, Token, bracket_text, push_reference, push_section_byte,
 };
 use std::alloc::{AllocError, Global};
 use std::marker::Model;
@@ -54,7 +53,6 @@ pub struct Outliner<T> {
     root: Option<Result<Dialect, Wrong>>,
     child: Grower,
     known: bool,
-    place: Position,
     told: RefusalHints,
 }
 
@@ -63,7 +61,7 @@ impl<T> Model for Outliner<T> {
 
     ghost Value = { Feed T };
 
-    ghost view = { λ o. feeding o.taker o.root o.child o.known o.place };
+    ghost view = { λ o. feeding o.taker o.root o.child o.known };
 }
 
 // What a reference stands for, and whether it stands for anything.
@@ -85,27 +83,11 @@ fn section_text(alloc: Global, count: u8, byte: u8) -> Result<Vec<u8>, AllocErro
     Ok(text)
 }
 
-// Where the first of the lines stands.
-fn first_place_of(lines: &[Line], place: Position) -> Position
-    ensures { result ≡ first_place_of (line_views lines.now) place }
-{
-    match lines {
-        [] => place,
-        [first, ..] => first.place,
-    }
-}
-
 // That no message was read, for this reason.
-fn refused<T>(fault: Fault, place: Position, taker: T, told: RefusalHints) -> Result<T, Stopped<T>>
-    ensures { result
-        ≡ Err (record { fault = fault; place = place; taker = taker; told = tt }) }
+fn refused<T>(fault: Fault, taker: T, told: RefusalHints) -> Result<T, Stopped<T>>
+    ensures { result ≡ Err (record { fault = fault; taker = taker; told = tt }) }
 {
-    Err(Stopped {
-        fault,
-        place,
-        taker,
-        told,
-    })
+    Err(Stopped { fault, taker, told })
 }
 
 impl<T: Taker + Drop> Outliner<T> {
@@ -119,7 +101,6 @@ impl<T: Taker + Drop> Outliner<T> {
             root: None,
             child: Grower::new(alloc),
             known: true,
-            place: Position::first(),
             told: RefusalHints::new(),
         }
     }
@@ -134,31 +115,30 @@ impl<T: Taker + Drop> Outliner<T> {
             root,
             child,
             known,
-            place,
-            told,
+            mut told,
         } = self;
         match root {
             None => {
                 let name = Bytes::from_vec(Vec::new(alloc));
-                refused(Fault::Message(Wrong::Root(name)), place, taker, told)
+                refused(Fault::Message(Wrong::Root(name)), taker, told)
             }
-            Some(Err(wrong)) => refused(Fault::Message(wrong), place, taker, told),
+            Some(Err(wrong)) => refused(Fault::Message(wrong), taker, told),
             Some(Ok(_)) => {
                 if !known {
-                    return refused(Fault::Reference, place, taker, told);
+                    return refused(Fault::Reference, taker, told);
                 }
                 if child.fits() {
                     return Ok(taker);
                 }
-                let first = first_place_of(child.lines(), place);
-                refused(Fault::TooLarge, first, taker, told)
+                told.stand_at(child.lines());
+                refused(Fault::TooLarge, taker, told)
             }
         }
     }
 
-    /// No message was read, for this reason, at this place.
-    pub(crate) fn stop(self, fault: Fault, place: Position) -> Stopped<T>
-        ensures { result ≡ stopped fault place self }
+    /// No message was read, for this reason.
+    pub(crate) fn stop(self, fault: Fault) -> Stopped<T>
+        ensures { result ≡ stopped fault self }
     {
         let Outliner {
             alloc: _,
@@ -166,22 +146,16 @@ impl<T: Taker + Drop> Outliner<T> {
             root: _,
             child: _,
             known: _,
-            place: _,
             told,
         } = self;
-        Stopped {
-            fault,
-            place,
-            taker,
-            told,
-        }
+        Stopped { fault, taker, told }
     }
 
     // Hands on the lines of a child of the root.
     fn hand_on(&mut self) -> Result<(), AllocError>
         ensures { OnOk result (self.new ≡ feeding
             (handed T.after self.old.taker self.old.child.lines)
-            self.old.root self.old.child self.old.known self.old.place) }
+            self.old.root self.old.child self.old.known) }
     {
         match self.child.lines() {
             [] => Ok(()),
@@ -228,7 +202,7 @@ impl<T: Taker + Drop> Outliner<T> {
                 };
                 let format = format_of(self.alloc, attributes)?;
                 self.child
-                    .open(counted, self.place, format, bindings, called)
+                    .open(counted, self.told.here(), format, bindings, called)
             }
         }
     }
@@ -290,10 +264,10 @@ impl<T: Taker + Drop> Outliner<T> {
         self.speak(&text, true)
     }
 
-    // Takes a token, but for its place.
+    // Takes a token.
     fn take_token(&mut self, token: Token<'_>) -> Result<(), AllocError>
         ensures { OnOk result (self.new
-            ≡ told T.vocabulary T.after self.old (token_view token.entry)) }
+            ≡ feed T.vocabulary T.after self.old (token_view token.entry)) }
     {
         match token {
             Token::Start(name, attributes, _) => self.begin(name, &attributes),
@@ -310,10 +284,20 @@ impl<T: Taker + Drop> Outliner<T> {
         }
     }
 
-    // Whether the root may be that of a message, and each reference stands for something.
-    fn is_sound(&self) -> bool
-        ensures { result ≡ is_sound self.now }
+    // Takes what was read next.
+    fn take_piece(&mut self, piece: Piece<'_>) -> Result<(), AllocError>
+        ensures { OnOk result (self.new
+            ≡ fold (feed T.vocabulary T.after) self.old (piece_view piece.entry)) }
     {
+        match piece {
+            Piece::Text(run) => self.speak(run, true),
+            Piece::Section(run) => self.speak(run, true),
+            Piece::Markup(token) => self.take_token(token),
+        }
+    }
+
+    // Whether the root may be that of a message, and each reference stands for something.
+    fn is_sound(&self) -> bool {
         match &self.root {
             None => true,
             Some(Err(_)) => false,
@@ -321,8 +305,8 @@ impl<T: Taker + Drop> Outliner<T> {
         }
     }
 
-    /// Whether more tokens are taken.
-    pub(crate) fn takes_more(&self) -> bool
+    // Whether more tokens are taken.
+    fn takes_more(&self) -> bool
         ensures { result ≡ takes_more self.now }
     {
         match &self.root {
@@ -332,25 +316,13 @@ impl<T: Taker + Drop> Outliner<T> {
         }
     }
 
-    // Goes behind what was read, unless it is refused, and tells whether more is taken.
-    fn move_on(&mut self, spelled: &[u8]) -> Result<bool, AllocError>
-        ensures moved { OnOk result (self.new ≡ moved spelled.now self.old) }
-        ensures more { IfOk result (λ more. more ≡ takes_more self.new) }
+    // Goes behind what was read, unless it is refused.
+    fn move_on(&mut self, spelled: &[u8])
+        ensures { self.new ≡ self.old }
     {
         if self.is_sound() {
-            let Some(place) = self.place.after(spelled) else {
-                return Err(AllocError);
-            };
-            self.place = place;
+            self.told.pass(spelled);
         }
-        Ok(self.takes_more())
-    }
-
-    /// Where the next token stands.
-    pub(crate) fn place(&self) -> Position
-        ensures { result ≡ self.now.place }
-    {
-        self.place
     }
 }
 
@@ -362,23 +334,13 @@ impl<T: Taker + Drop> Sink for Outliner<T> {
     ghost goes_on = { λ f. takes_more f };
 
     fn take(&mut self, piece: Piece<'_>, spelled: &[u8]) -> Result<bool, AllocError> {
-        match piece {
-            Piece::Text(run) => {
-                self.speak(run, true)?;
-                self.move_on(spelled)
-            }
-            Piece::Section(run) => {
-                self.speak(run, true)?;
-                self.move_on(spelled)
-            }
-            Piece::Markup(token) => {
-                self.take_token(token)?;
-                self.move_on(spelled)
-            }
-        }
+        self.take_piece(piece)?;
+        self.move_on(spelled);
+        Ok(self.takes_more())
     }
 
-    fn stuck(&mut self, rest: &[u8]) {
+    fn stuck(&mut self, front: &[u8], rest: &[u8]) {
+        self.told.pass(front);
         self.told.take_stuck(self.alloc, rest);
     }
 }

@@ -1,6 +1,8 @@
 //! What a document has told until its reading stopped.
 
+use crate::line::Line;
 use crate::names::stranger;
+use feed_xml::Position;
 use std::alloc::{AllocError, Global};
 use std::marker::Model;
 
@@ -11,6 +13,10 @@ const KEPT: usize = 200;
 /// is proved of it.
 #[derive(Debug, Drop)]
 pub struct RefusalHints {
+    /// Where the reading stopped: at the tag of a root that is refused, at a reference that stands
+    /// for nothing, at the tag of a Header or Product that is too large, else behind the last token
+    /// that was taken, and of what is malformed behind what may stand there.
+    pub place: Position,
     /// What stands between `&` and `;` in the first reference that stands for nothing.
     pub reference: Option<Vec<u8>>,
     /// The beginning of what is malformed.
@@ -31,6 +37,7 @@ impl RefusalHints {
     /// Nothing yet.
     pub(crate) fn new() -> RefusalHints {
         RefusalHints {
+            place: Position::first(),
             reference: None,
             stuck: None,
             has_stranger: false,
@@ -58,6 +65,23 @@ impl RefusalHints {
     /// Takes the end of a child of the root.
     pub(crate) fn end_child(&mut self) {
         self.has_stranger = false;
+    }
+
+    /// Where the next token stands.
+    pub(crate) fn here(&self) -> Position {
+        self.place.copied()
+    }
+
+    /// Goes behind these bytes.
+    pub(crate) fn pass(&mut self, bytes: &[u8]) {
+        self.place.pass(bytes);
+    }
+
+    /// Goes back to the first of these lines.
+    pub(crate) fn stand_at(&mut self, lines: &[Line]) {
+        if let [first, ..] = lines {
+            self.place = first.place.copied();
+        }
     }
 
     /// Takes what begins with what is malformed. Without memory it is not told.

@@ -1,4 +1,3 @@
-pub mod AnyOf
 pub mod ComputedAmounts
 pub mod Stands
 pub mod Without
@@ -6,7 +5,5 @@ pub mod TermTables
 pub mod Digits
 pub mod LeastPrices
 pub mod WithRecords
-pub mod FirstFitting
-pub mod CodeLists
 pub mod ReadBack
 pub mod Writable

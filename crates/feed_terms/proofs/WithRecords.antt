@@ -1,6 +1,6 @@
 -- The records of a SupplyDetail, as they are gone over.
-use Rattle.std.proofs.Common.{◌≡◌, ◌<◌, ◌≤◌, ◌+◌, ℕ, suc, List, [], ◌∷◌, ◌++◌, Bool, Option, Some, length, get_or, drop, map, take, slice_get, sym, ap, add-one, append_assoc, ◌∙◌}
-use Rattle.std.proofs.lemmas.List.{append-nil, drop_all, map-append, take_all, take_more}
+use Rattle.std.proofs.Common.{◌≡◌, ◌<◌, ◌≤◌, ◌+◌, ℕ, suc, List, ◌∷◌, ◌++◌, Bool, Option, Some, length, get_or, drop, slice_get, sym, ap, add-one, append_assoc, ◌∙◌}
+use Rattle.std.proofs.lemmas.List.{append-nil, drop_all}
 use Rattle.std.proofs.Math.Seq.{drop-cons}
 use Rattle.std.proofs.lemmas.Option.{get_or_from_slice_get}
 use Rattle.feed_terms.specs.WithTerms.{with_all, with_computed}
@@ -10,19 +10,6 @@ use Rattle.feed_terms.specs.declared.term.Term.{Term}
 
 dropped : {X : Type 0} (xs : List X) (i : ℕ) (x : X) → i < length xs → x ≡ get_or xs i x → drop i xs ≡ x ∷ drop (i + 1) xs
 dropped xs i x l at = rw add-one (drop-cons xs i x l ∙ ap (λ y. y ∷ drop (suc i) xs) (sym at))
-
--- one more of a list that is gone over
-pub mapped_more : {X Y : Type 0} (f : X → Y) (xs : List X) (i : ℕ) (x : X) (before after : List Y) (y : Y) → i < length xs → x ≡ get_or xs i x → before ≡ map f (take i xs) → after ≡ before ++ y ∷ [] → y ≡ f x
-    → after ≡ map f (take (i + 1) xs)
-mapped_more f xs i x before after y l at was now is =
-    let more : map f (take (i + 1) xs) ≡ map f (take i xs) ++ f x ∷ [] =
-    ap (map f) (take_more xs i x l ∙ ap (λ z. take i xs ++ z ∷ []) (sym at)) ∙ map-append f (take i xs) (x ∷ [])
-    in
-    now ∙ ap (λ b. b ++ y ∷ []) was ∙ ap (λ z. map f (take i xs) ++ z ∷ []) is ∙ sym more
-
--- all of it, where both functions are the same
-pub all_mapped : {X Y : Type 0} (f g : X → Y) (xs : List X) (n : ℕ) (ys : List Y) → ys ≡ map f (take n xs) → length xs ≤ n → f ≡ g → ys ≡ map g xs
-all_mapped f g xs n ys is past same = is ∙ ap (map f) (take_all n xs past) ∙ ap (λ h. map h xs) same
 
 module _ (terms : List Term) (supplier : Option (List ℕ)) where
   -- one more record with those behind it

@@ -36,11 +36,6 @@ abbrev pub has_code : Term → List SaidCode → Bool
 has_code term said =
     option_map_or (λ asked. list_any (takes_code asked term.scheme) said) term.codes true
 
--- whether a term takes the scheme of a DiscountCoded, where it goes by one
-abbrev pub takes_scheme : Option (List ℕ) → Option (List ℕ) → Bool
-takes_scheme asked None = true
-takes_scheme asked (Some said) = is_asked asked (Some said)
-
 -- whether a Discount says a percent, where a term goes by it
 abbrev pub has_discount : Rate → List Discount → Bool
 has_discount (Fixed percent) discounts = true
@@ -60,10 +55,6 @@ module _ (supplier : Option (List ℕ)) (given : GivenPrice) where
       && is_asked term.currency (Some given.price.currency)
       && has_discount term.percent given.discounts && has_tax term.tax given.tax
 
-  -- the same by a DiscountCoded of this scheme, or by none
-  abbrev pub fits_by : Option (List ℕ) → Term → Bool
-  fits_by scheme term = takes_scheme term.scheme scheme && fits_besides term
-
   -- whether a term fits a price of that supplier: none fits one that is garbled
   abbrev pub fits : Term → Bool
   fits term = not given.garbled && has_code term given.codes && fits_besides term
@@ -71,12 +62,3 @@ module _ (supplier : Option (List ℕ)) (given : GivenPrice) where
   -- the first term that fits
   abbrev pub fitting : List Term → Option Term
   fitting terms = find fits terms
-
--- whether a term is for this type and currency
-abbrev pub is_for : List ℕ → List ℕ → Term → Bool
-is_for price_type currency term =
-    is_among term.types price_type && is_asked term.currency (Some currency)
-
--- whether a table has a term for the type and currency of a price
-abbrev pub is_of_table : List Term → GivenPrice → Bool
-is_of_table terms given = list_any (is_for given.price.price_type given.price.currency) terms

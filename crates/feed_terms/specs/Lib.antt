@@ -3,8 +3,6 @@ pub mod TermsFile
 pub mod Reading
 pub mod Prices
 pub mod Fits
-pub mod TaxDoubts
-pub mod Codes
 pub mod Precedes
 pub mod Amounts
 pub mod Computed

@@ -1,21 +1,19 @@
 -- The records of a SupplyDetail with the prices that are computed.
-use Rattle.std.specs.Prelude.{◌≡◌, ℕ, List, [], ◌∷◌, ◌++◌, ◌==◌, Bool, not, ◌&&◌, ◌||◌, Option}
-use Rattle.std.specs.Prelude.{◌-◌, ◌<◌, ◌≤◌, IfSome, drop, filter, is_none, length, map}
+use Rattle.std.specs.Prelude.{◌≡◌, ℕ, List, [], ◌∷◌, ◌++◌, ◌==◌, Bool, not, ◌||◌, Option}
+use Rattle.std.specs.Prelude.{◌<◌, ◌≤◌, IfSome, drop, filter, length, map}
 use Rattle.std.specs.Prelude.{slice_get, take}
-use Rattle.std.specs.List.{flat_map, list_any}
+use Rattle.std.specs.List.{flat_map}
 use Rattle.onix_records.specs.Price.{minimum_fields}
 use Rattle.onix_records.specs.declared.parts.Price.{Price}
 use Rattle.feed_terms.specs.Amounts.{two_decimals}
 use Rattle.feed_terms.specs.Computed.{computed_by}
-use Rattle.feed_terms.specs.Fits.{fitting, is_among, is_of_table}
+use Rattle.feed_terms.specs.Fits.{fitting, is_among}
 use Rattle.feed_terms.specs.HeldBack.{is_held, is_held_back, place_text}
 use Rattle.feed_terms.specs.declared.computed.ComputedPrice.{ComputedPrice}
 use Rattle.feed_terms.specs.declared.price.GivenPrice.{GivenPrice}
 use Rattle.feed_terms.specs.declared.price.Kind.{Kind}
 use Rattle.feed_terms.specs.declared.term.Term.{Term}
 use Rattle.feed_terms.specs.declared.with_terms.Beside.{Beside}
-use Rattle.feed_terms.specs.declared.with_terms.Outcome.{Outcome}
-use Rattle.feed_terms.specs.declared.with_terms.Remarks.{Remarks}
 
 -- the record of a computed price: that of the price that it comes from, but for type, amount and
 -- minimum, which is there where it is above 1
@@ -54,22 +52,6 @@ module _ (terms : List Term) (supplier : Option (List ℕ))
   abbrev pub written_of : GivenPrice → List ComputedPrice
   written_of g = filter (λ c. not (c.amount == 0)) (left_of g)
 
-  -- how many are held back
-  abbrev pub held_of : GivenPrice → ℕ
-  held_of g = length (computed_of g) - length (left_of g)
-
-  -- whether one that is left has an amount of 0
-  abbrev pub is_free : GivenPrice → Bool
-  is_free g = list_any (λ c. c.amount == 0) (left_of g)
-
-  -- whether no term fits one for whose type and currency the table has one
-  abbrev pub is_unfitted : GivenPrice → Bool
-  is_unfitted g = is_none (fitting supplier g terms) && is_of_table terms g
-
-  -- what is said of one besides
-  abbrev pub remarks_of : GivenPrice → Remarks
-  remarks_of g = record { held = held_of g; is_free = is_free g; is_unfitted = is_unfitted g }
-
   -- the record of a price, and behind it those of the prices that are computed of it
   abbrev pub with_computed : List (List ℕ) → GivenPrice → List (List (List ℕ))
   with_computed fields g = fields ∷ map (computed_record fields) (written_of g)
@@ -84,11 +66,6 @@ module _ (terms : List Term) (supplier : Option (List ℕ))
   abbrev pub prices_with : List GivenPrice → List Price
   prices_with given =
       flat_map (λ g. g.price ∷ map (price_of_computed g.price) (written_of g)) given
-
-  -- what comes of a price
-  pub record IsOutcome (g : GivenPrice) (o : Outcome) : Type 0 where
-    pub written : o.written.items ≡ written_of g
-    pub remarks : o.remarks ≡ remarks_of g
 
 -- the records of the Prices of a SupplyDetail with the terms
 abbrev pub with_terms : List Term → Option (List ℕ) → List Kind → List GivenPrice

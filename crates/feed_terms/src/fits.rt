@@ -1,11 +1,12 @@
 //! Which term fits a price.
 
 ghost use Rattle.std.specs.Prelude.{◌≡◌, IfOk};
+ghost use Rattle.std.specs.List.{list_any};
 ghost use Rattle.std.specs.Option.{option_copied};
-ghost use Rattle.feed_terms.specs.Fits.{fits_besides, has_discount, has_tax, is_among, is_asked, is_for, supplier_text};
+ghost use Rattle.feed_terms.specs.Fits.{fits, fits_besides, has_code, has_discount, has_tax, is_among, is_asked, supplier_text, takes_code};
 
 use crate::percent::Percent;
-use crate::price::{Discount, GivenPrice};
+use crate::price::{Discount, GivenPrice, SaidCode};
 use crate::term::{Rate, Term};
 use onix_terms::code::{Code2, Currency};
 use onix_terms::party::Party;
@@ -58,9 +59,7 @@ fn is_currency(asked: Option<Currency>, currency: Currency) -> bool
 }
 
 /// Whether a term is for this type and currency.
-pub(crate) fn is_for(term: &Term, price_type: Code2, currency: Currency) -> bool
-    ensures { result ≡ is_for price_type currency term.now }
-{
+pub(crate) fn is_for(term: &Term, price_type: Code2, currency: Currency) -> bool {
     has_type(term.types.as_slice(), price_type) && is_currency(term.currency, currency)
 }
 
@@ -87,8 +86,8 @@ fn has_tax(tax: Option<Rate>, said: Option<Percent>) -> bool
     }
 }
 
-/// Whether a term fits a price of this supplier but for its codes.
-pub(crate) fn fits_besides(term: &Term, supplier: Option<&Text>, given: &GivenPrice) -> bool
+// Whether a term fits a price of this supplier but for its codes.
+fn fits_besides(term: &Term, supplier: Option<&Text>, given: &GivenPrice) -> bool
     ensures { result ≡ fits_besides (option_copied supplier.entry) given.now term.now }
 {
     has_type(term.types.as_slice(), given.price.price_type)
@@ -96,4 +95,35 @@ pub(crate) fn fits_besides(term: &Term, supplier: Option<&Text>, given: &GivenPr
         && is_currency(term.currency, given.price.currency)
         && has_discount(term.percent, given.discounts.as_slice())
         && has_tax(term.tax, given.tax)
+}
+
+// Whether a term with these codes and this scheme takes what a DiscountCoded says.
+fn takes_code(asked: &[Text], scheme: Option<&Text>, said: &SaidCode) -> bool
+    ensures { result ≡ takes_code asked.now (option_copied scheme.entry) said.now }
+{
+    is_among(asked, &said.code) && is_text(scheme, Some(&said.scheme))
+}
+
+// Whether it takes what one of several says.
+fn takes_one(asked: &[Text], scheme: Option<&Text>, said: &[SaidCode]) -> bool
+    ensures { result ≡ list_any (takes_code asked.now (option_copied scheme.entry)) said.now }
+{
+    said.iter().any(|code| takes_code(asked, scheme, code))
+}
+
+// Whether a term takes what one and the same DiscountCoded of a price says, if it asks for codes.
+fn has_code(term: &Term, said: &[SaidCode]) -> bool
+    ensures { result ≡ has_code term.now said.now }
+{
+    match &term.codes {
+        None => true,
+        Some(asked) => takes_one(asked.as_slice(), term.scheme.as_ref(), said),
+    }
+}
+
+/// Whether a term fits a price of this supplier.
+pub(crate) fn fits(term: &Term, supplier: Option<&Text>, given: &GivenPrice) -> bool
+    ensures { result ≡ fits (option_copied supplier.entry) given.now term.now }
+{
+    !given.garbled && has_code(term, given.codes.as_slice()) && fits_besides(term, supplier, given)
 }

@@ -10,7 +10,6 @@
 
 pub mod amounts;
 mod barred;
-mod codes;
 pub mod computed;
 pub mod fits;
 pub mod held_back;

@@ -1,8 +1,5 @@
 //! Which terms a shop should look at again, since their types of prices do not fit their tax.
-
-ghost use Rattle.std.specs.Prelude.{◌≡◌};
-ghost use Rattle.std.specs.List.{list_all};
-ghost use Rattle.feed_terms.specs.TaxDoubts.{are_of_one_kind, doubt_of, doubt_with, doubt_without, excludes_tax, includes_tax};
+//! Words for a person: no price depends on them.
 
 use crate::term::{Rate, Term};
 use onix_terms::code::Code2;
@@ -19,9 +16,7 @@ pub enum TaxDoubt {
 }
 
 // Whether a price of this type includes tax.
-fn includes_tax(price_type: Code2) -> bool
-    ensures { result ≡ includes_tax price_type }
-{
+fn includes_tax(price_type: Code2) -> bool {
     let text = price_type.as_str();
     text == "02"
         || text == "04"
@@ -37,23 +32,17 @@ fn includes_tax(price_type: Code2) -> bool
         || text == "42"
 }
 
-fn all_include(types: &[Code2]) -> bool
-    ensures { result ≡ list_all includes_tax types.now }
-{
+fn all_include(types: &[Code2]) -> bool {
     types.iter().all(|price_type| includes_tax(*price_type))
 }
 
-fn all_exclude(types: &[Code2]) -> bool
-    ensures { result ≡ list_all excludes_tax types.now }
-{
+fn all_exclude(types: &[Code2]) -> bool {
     types.iter().all(|price_type| !includes_tax(*price_type))
 }
 
 // Whether the types of a term and that of its net prices are all of prices with tax, or all of
 // others.
-fn are_of_one_kind(term: &Term) -> bool
-    ensures { result ≡ are_of_one_kind term.now }
-{
+fn are_of_one_kind(term: &Term) -> bool {
     if includes_tax(term.net) {
         all_include(term.types.as_slice())
     } else {
@@ -61,9 +50,7 @@ fn are_of_one_kind(term: &Term) -> bool
     }
 }
 
-fn doubt_without(term: &Term) -> Option<TaxDoubt>
-    ensures { result ≡ doubt_without term.now }
-{
+fn doubt_without(term: &Term) -> Option<TaxDoubt> {
     if are_of_one_kind(term) {
         None
     } else {
@@ -71,9 +58,7 @@ fn doubt_without(term: &Term) -> Option<TaxDoubt>
     }
 }
 
-fn doubt_with(term: &Term) -> Option<TaxDoubt>
-    ensures { result ≡ doubt_with term.now }
-{
+fn doubt_with(term: &Term) -> Option<TaxDoubt> {
     if all_include(term.types.as_slice()) && !includes_tax(term.net) {
         None
     } else {
@@ -82,9 +67,7 @@ fn doubt_with(term: &Term) -> Option<TaxDoubt>
 }
 
 /// Why a term is to be looked at again, where it is.
-pub fn doubt_of(term: &Term) -> Option<TaxDoubt>
-    ensures { result ≡ doubt_of term.now }
-{
+pub fn doubt_of(term: &Term) -> Option<TaxDoubt> {
     match term.tax {
         None => doubt_without(term),
         Some(Rate::Feed) => doubt_with(term),

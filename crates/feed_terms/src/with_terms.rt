@@ -1,12 +1,9 @@
 //! The records of a SupplyDetail with the prices that are computed.
 
-ghost use Rattle.std.specs.Prelude.{◌≡◌, ◌≤◌, ◌==◌, ◌++◌, OnOk, IfOk, ◌&&◌, filter, is_none, length, map, not};
+ghost use Rattle.std.specs.Prelude.{◌≡◌, ◌≤◌, ◌==◌, ◌++◌, OnOk, IfOk, filter, length, map, not};
 ghost use Rattle.std.specs.Option.{option_copied};
 ghost use Rattle.onix_records.specs.Price.{minimum_fields};
-ghost use Rattle.std.specs.List.{list_any};
-ghost use Rattle.feed_terms.specs.Fits.{is_of_table};
-ghost use Rattle.feed_terms.specs.HeldBack.{is_held_back};
-ghost use Rattle.feed_terms.specs.WithTerms.{HavePrices, IsOutcome, computed_record, held_by, remarks_of, is_held_beside, with_computed, with_terms};
+ghost use Rattle.feed_terms.specs.WithTerms.{HavePrices, computed_record, held_by, is_held_beside, with_computed, with_terms, written_of};
 
 use crate::amounts::two_decimals;
 use crate::barred::{is_barred, unfitted_places};
@@ -107,16 +104,12 @@ fn written_of(alloc: Global, left: &[ComputedPrice]) -> Result<Vec<ComputedPrice
 }
 
 // Whether one of some prices is nothing.
-fn has_free(prices: &[ComputedPrice]) -> bool
-    ensures { result ≡ list_any (λ c. c.amount == 0) prices.now }
-{
+fn has_free(prices: &[ComputedPrice]) -> bool {
     prices.iter().any(|price| is_free(price))
 }
 
 // Whether no term fits a price for whose type and currency the table has one.
-fn is_unfitted(terms: &Terms, term: Option<&Term>, given: &GivenPrice) -> bool
-    ensures { result ≡ (is_none (option_copied term.entry) && is_of_table terms.now given.now) }
-{
+fn is_unfitted(terms: &Terms, term: Option<&Term>, given: &GivenPrice) -> bool {
     match term {
         Some(_) => false,
         None => terms.is_for(given),
@@ -149,8 +142,9 @@ fn outcome_of(
     beside: &Beside<'_>,
     given: &GivenPrice,
 ) -> Result<Outcome, AllocError>
-    ensures { IfOk result (IsOutcome terms.now (option_copied supplier.entry)
-        (is_held_beside beside.now) given.now) }
+    ensures { IfOk result (λ o. o.written.items
+        ≡ written_of terms.now (option_copied supplier.entry) (is_held_beside beside.now)
+        given.now) }
 {
     let term = terms.fitting(supplier, given);
     let is_unfitted = is_unfitted(terms, term, given);
@@ -231,12 +225,9 @@ fn add_with_computed(
     output: &mut RecordBuffer,
 ) -> Result<Remarks, AllocError>
     requires { 9 ≤ length source.now }
-    ensures records { OnOk result (output.new ≡ output.old
+    ensures { OnOk result (output.new ≡ output.old
         ++ with_computed terms.now (option_copied supplier.entry) (is_held_beside beside.now)
         source.now given.now) }
-    ensures remarks { IfOk result (λ r. r
-        ≡ remarks_of terms.now (option_copied supplier.entry) (is_held_beside beside.now)
-        given.now) }
 {
     let outcome = outcome_of(alloc, terms, supplier, beside, given)?;
     output.push(source)?;
@@ -245,7 +236,8 @@ fn add_with_computed(
 }
 
 /// Adds the records of the Prices of a SupplyDetail, of which the feed gives these, each with those
-/// of the prices that are computed of it behind it, and says of each what else comes of it.
+/// of the prices that are computed of it behind it. What it says of each besides decides nothing, and
+/// no clause tells it.
 pub fn add_with_terms(
     alloc: Global,
     terms: &Terms,
@@ -256,11 +248,8 @@ pub fn add_with_terms(
     output: &mut RecordBuffer,
 ) -> Result<Vec<Remarks>, AllocError>
     requires { HavePrices records.now given.now }
-    ensures records { OnOk result (output.new ≡ output.old
+    ensures { OnOk result (output.new ≡ output.old
         ++ with_terms terms.now (option_copied supplier.entry) closed.now given.now records.now) }
-    ensures remarks { IfOk result (λ r. r.items ≡ map (remarks_of terms.now
-        (option_copied supplier.entry) (is_held_back terms.now (option_copied supplier.entry)
-        given.now closed.now)) given.now) }
 {
     let barred = unfitted_places(alloc, terms, supplier, given)?;
     let beside = Beside {

@@ -1,6 +1,6 @@
 -- Tokens are the only reading of their bytes, so what was read is the front of every document that the bytes may be.
-use Rattle.std.proofs.Common.{◌≡◌, ℕ, Bool, true, false, eqb, List, [], ◌∷◌, ◌++◌, length, drop, Option, Some, None, Result, Ok, Err, refl, sym, ap, subst, ◌∙◌, append_assoc, append-nil, length-append, arith}
-use Rattle.std.specs.Prelude.{◌&&◌, IsErrOf}
+use Rattle.std.proofs.Common.{◌≡◌, ℕ, Bool, true, false, List, [], ◌∷◌, ◌++◌, length, drop, Option, Some, None, Result, Ok, Err, refl, sym, ap, subst, ◌∙◌, append_assoc, append-nil, length-append, arith}
+use Rattle.std.specs.Prelude.{◌&&◌}
 use Rattle.std.specs.List.{list_all, flat_map}
 use Rattle.std.proofs.lemmas.Bool.{and_parts, eqb-true}
 use Rattle.std.proofs.lemmas.List.Concat.{flat_map-cons}
@@ -15,10 +15,9 @@ use Rattle.feed_xml.specs.declared.place.Tail.{Tail}
 use Rattle.feed_xml.specs.declared.place.Tail.TheVariants.{Text, Section}
 use Rattle.feed_xml.specs.Grammar.{Token, raw, cdata, spelling, is_token, is_filled}
 use Rattle.feed_xml.specs.Reading.{token_at}
-use Rattle.feed_xml.specs.private.Bounds.{MeetsFrom, NoneStandsAt, NoneWillStand}
 use Rattle.feed_xml.specs.Pieces.{Begins, HasNoToken, Explains}
-use Rattle.feed_xml.specs.Sections.{AreIn, section_around, section_behind}
-use Rattle.feed_xml.proofs.PlaceLaws.{elsewhere, placed_in, steps-append, past_is}
+use Rattle.feed_xml.specs.Sections.{AreIn, section_behind}
+use Rattle.feed_xml.proofs.PlaceLaws.{placed_in, steps-append, past_is}
 use Rattle.feed_xml.specs.private.Places.{section_of, steps, is_clear, is_nothing, is_closed, is_past, is_last, Completes, IsComplete, IsNeverComplete, first_place, last_nesting, last_place}
 use Rattle.feed_xml.specs.Documents.{IsNoText}
 use Rattle.std.specs.Prelude.{IfSome, not, OnOk}
@@ -133,34 +132,6 @@ misplaced bytes rest left tokens others p q a b none more all c =
     let split : steps q (others ++ f.others) ≡ None = steps-append q others f.others ∙ rw none refl in
     absurd (cc (sym split ∙ ends))
 
--- ---- where reading stops
-
--- the one token that follows may not stand here
-pub stuck_here : (q : Place) (rest behind : List ℕ) (token : Token) → Begins (section_of q.tail) rest (token ∷ []) behind → steps q (token ∷ []) ≡ None → NoneWillStand q rest
-stuck_here q rest behind token b none more other f = elsewhere q other same_so
-  where
-    same_so : section_around other ≡ section_of q.tail → steps q (other ∷ []) ≡ None
-    same_so around =
-        let spelled : rest ≡ spelling token ++ behind = b.spelled ∙ ap (λ (l : List ℕ). l ++ behind) (flat_map-cons spelling token [] ∙ append-nil (spelling token)) in
-        let here : rest ++ more ≡ spelling token ++ (behind ++ more) = ap (λ (l : List ℕ). l ++ more) spelled ∙ append_assoc (spelling token) behind more in
-        let both : read_as token (behind ++ more) ≡ read_as other f.0 =
-        sym (token_again token (behind ++ more) (and_parts (is_token token) (list_all is_token []) b.each).0) ∙ ap (λ (s : Option ℕ). token_at s (spelling token ++ (behind ++ more))) (b.within.0 ∙ sym around)
-        ∙ ap (token_at (section_around other)) (sym here ∙ f.1) ∙ token_again other f.0 f.2 in
-        ap (λ (t : Token). steps q (t ∷ [])) (sym (same_token token other (behind ++ more) f.0 both).0) ∙ none
-
-pub never_stands : (q : Place) (rest : List ℕ) → Explains (section_of q.tail) Never rest → NoneWillStand q rest
-never_stands q rest absent more other f = elsewhere q other (λ around. absurd (absent more other f.0 f.2 around f.1))
-
--- the same error of a function that returns something else
-pub other_err : {T U E : Type 0} (e f : E) → IsErrOf {T = T} (Err e) f → IsErrOf {T = U} (Err e) f
-other_err {T} {U} {E} e f h = ap (λ (x : E). failed {U = U} x) (err_is e f h)
-  where
-    failed : {U : Type 0} → E → Result U E
-    failed x = Err x
-
-    err_is : (x y : E) → IsErrOf {T = T} (Err x) y → x ≡ y
-    err_is x y k = cc
-
 -- ---- over a reader
 
 pub advance_further : (bytes window rest : List ℕ) (tokens others : List Token) (p q r : Place) → Advances bytes tokens window p q → Advances window others rest q r
@@ -224,14 +195,6 @@ known_cut (Some x) (Some y) bytes window tokens q part c end_here adv at_part no
     let start : part ≡ Whole = same_part part Whole (sym at_part ∙ text) in
     let ends : is_whole window q part ≡ true = ap (λ (l : List ℕ). is_whole l q part) e.0 ∙ ap (λ (p : Place). is_whole [] p part) e.1 ∙ ap (is_whole [] last_place) start in
     absurd (cc (sym cut ∙ ends))
-
--- all of the input was read, and no token begins what is left
-pub known_stuck : (a b : Option (List ℕ)) (bytes window : List ℕ) (tokens : List Token) (q : Place) → Consumes a b bytes → IsAtEnd b → Advances bytes tokens window first_place q
-    → HasNoToken (section_of q.tail) window → IfSome a (MeetsFrom NoneStandsAt first_place tokens)
-known_stuck None b bytes window tokens q c end_here adv none = tt
-known_stuck (Some x) b bytes window tokens q c end_here adv none =
-    subst (MeetsFrom NoneStandsAt first_place tokens) (sym (known_told (Some x) b bytes c end_here))
-    (record { rest = window; place = q; leads = adv; meets = λ token f. elsewhere q token (λ around. absurd (none token f.0 f.2 around f.1)) })
 
 -- all of the input was read, and ends within a character
 pub known_half : (a b : Option (List ℕ)) (bytes : List ℕ) (part : Part) → Consumes a b bytes → IsAtEnd b → follow Whole bytes ≡ Some part → is_start part ≡ false → IfSome a IsNoText

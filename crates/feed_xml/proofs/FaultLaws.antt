@@ -1,5 +1,5 @@
 -- What a fault tells of a window it tells of the text, and what it tells of a text of all bytes.
-use Rattle.std.proofs.Common.{◌≡◌, ◌∙◌, ℕ, Bool, List, [], ◌∷◌, ◌++◌, Option, Some, None, Result, Ok, Err, ap, fold, refl, sym, take, drop}
+use Rattle.std.proofs.Common.{◌≡◌, ◌∙◌, ℕ, Bool, List, ◌++◌, Option, Some, None, Result, Ok, Err, ap, fold, refl, sym, take, drop}
 use Rattle.std.specs.Prelude.{IfErr, IfSome, IsErrOf, OnErr, option_map}
 use Rattle.std.proofs.lemmas.List.Sums.{fold-append}
 use Rattle.feed_xml.specs.declared.encodings.Encoding.{Encoding}
@@ -12,15 +12,14 @@ use Rattle.feed_xml.specs.EncodingNames.{IsOfUnknown, OfText, encoding_at, encod
 use Rattle.feed_xml.specs.Encodings.{decoded}
 use Rattle.feed_xml.specs.Faults.{IsOfEnd, IsOfPlace, IsOfReading, Tells}
 use Rattle.feed_xml.specs.Grammar.{Token}
-use Rattle.feed_xml.specs.private.Bounds.{IsDeepAt, IsGarbledBehind, IsLargeAt, IsLongAt, MeetsFrom, NoneStandsAt, NoneWillStand}
-use Rattle.feed_xml.specs.private.Faults.{IsUnknown, TellsText, TellsWindow, Took}
+use Rattle.feed_xml.specs.private.Bounds.{IsDeepAt, IsLargeAt, IsLargeTag, IsLongAt, MeetsFrom, OpensOneMore}
+use Rattle.feed_xml.specs.private.Faults.{IsUnknown, TellsText, TellsWindow}
 use Rattle.feed_xml.specs.private.Places.{IsNeverComplete, first_place, section_of, steps}
 use Rattle.feed_xml.specs.private.Windows.{Advances, BeginsAt}
 use Rattle.feed_xml.specs.Pieces.{Begins}
-use Rattle.feed_xml.proofs.DocumentLaws.{misplaced, stuck_here}
-use Rattle.feed_xml.proofs.GarbledLaws.{broken_text}
-use Rattle.feed_xml.proofs.LimitLaws.{deep_lasts, large_lasts, stuck_lasts, stuck_now}
-use Rattle.feed_xml.proofs.MeetLaws.{begins_text, deep_text, large_text, long_text, of_all, stuck_text}
+use Rattle.feed_xml.proofs.DocumentLaws.{misplaced}
+use Rattle.feed_xml.proofs.LimitLaws.{deep_lasts, large_lasts, piece_follows}
+use Rattle.feed_xml.proofs.MeetLaws.{begins_text, deep_text, large_text, long_text, of_all}
 use Rattle.feed_xml.proofs.ReadingLaws.{State, begins_further, goes_beyond, none_follows}
 use Rattle.feed_xml.proofs.TreeLaws.{never_document}
 
@@ -49,42 +48,36 @@ end_tells P (Err (UnknownEncoding name)) of w g cut half = absurd of
 end_tells P (Err Read) of w g cut half = absurd of
 end_tells P (Err Memory) of w g cut half = absurd of
 
--- what a token that may not stand tells
-pub place_tells : {S : Type 0} (after : S → Token → S) (goes_on : S → Bool) (window rest : List ℕ) (tokens : List Token) (from place : Place) (old new : S) (fault : Fault) → Advances window tokens rest from place
-    → new ≡ fold after old tokens → IsOfPlace fault → (fault ≡ Malformed → (token : Token) × (behind : List ℕ) × Begins (section_of place.tail) rest (token ∷ []) behind × (steps place (token ∷ []) ≡ None))
-    → (fault ≡ TooDeep → IsDeepAt place rest) → (fault ≡ LargeTag → IsLargeAt place rest) → TellsWindow after goes_on from window old new fault
-place_tells after goes_on window rest tokens from place old new Malformed leads sunk of malformed deep large =
-    let m = malformed refl in (
-      misplaced window rest m.1 tokens (m.0 ∷ []) from place leads m.2 m.3,
-      (tokens, record { rest = rest; place = place; leads = leads; meets = stuck_here place rest m.1 m.0 m.2 m.3 }, sunk),
-    )
-place_tells after goes_on window rest tokens from place old new TooDeep leads sunk of malformed deep large = (tokens, record { rest = rest; place = place; leads = leads; meets = deep refl }, sunk)
-place_tells after goes_on window rest tokens from place old new LargeTag leads sunk of malformed deep large = (tokens, record { rest = rest; place = place; leads = leads; meets = large refl }, sunk)
-place_tells after goes_on window rest tokens from place old new Memory leads sunk of malformed deep large = tt
-place_tells after goes_on window rest tokens from place old new Read leads sunk of malformed deep large = absurd of
-place_tells after goes_on window rest tokens from place old new NotText leads sunk of malformed deep large = absurd of
-place_tells after goes_on window rest tokens from place old new TooLong leads sunk of malformed deep large = absurd of
-place_tells after goes_on window rest tokens from place old new Refused leads sunk of malformed deep large = absurd of
-place_tells after goes_on window rest tokens from place old new (UnknownEncoding name) leads sunk of malformed deep large = absurd of
-
--- the same of more tokens
-took_on : {S : Type 0} (after : S → Token → S) (P Q : List Token → Type 0) (tokens : List Token) (old mid new : S) → mid ≡ fold after old tokens → ((others : List Token) → P others → Q (tokens ++ others))
-    → Took after P mid new → Took after Q old new
-took_on after P Q tokens old mid new sunk f w =
-    (tokens ++ w.0, f w.0 w.1, w.2 ∙ ap (λ s. fold after s w.0) sunk ∙ sym (fold-append after old tokens w.0))
+-- what tokens that may not stand tell
+pub place_tells : {S : Type 0} (after : S → Token → S) (goes_on : S → Bool) (window rest next : List ℕ) (tokens others : List Token) (from place : Place) (old new : S) (fault : Fault) → Advances window tokens rest from place
+    → Begins (section_of place.tail) rest others next → IsOfPlace fault → (fault ≡ Malformed → steps place others ≡ None) → (fault ≡ TooDeep → OpensOneMore place others) → (fault ≡ LargeTag → IsLargeTag others)
+    → TellsWindow after goes_on from window old new fault
+place_tells after goes_on window rest next tokens others from place old new Malformed leads begins of malformed deep large = misplaced window rest next tokens others from place leads begins (malformed refl)
+place_tells after goes_on window rest next tokens others from place old new TooDeep leads begins of malformed deep large =
+    let d = deep refl in
+    (tokens, record { rest = rest; place = place; leads = leads; meets = (d.0, d.1, piece_follows (section_of place.tail) rest next others d.0 begins d.2, d.3) })
+place_tells after goes_on window rest next tokens others from place old new LargeTag leads begins of malformed deep large =
+    let l = large refl in
+    (tokens, record { rest = rest; place = place; leads = leads; meets = (l.0, piece_follows (section_of place.tail) rest next others l.0 begins l.1, l.2) })
+place_tells after goes_on window rest next tokens others from place old new Memory leads begins of malformed deep large = tt
+place_tells after goes_on window rest next tokens others from place old new Read leads begins of malformed deep large = absurd of
+place_tells after goes_on window rest next tokens others from place old new NotText leads begins of malformed deep large = absurd of
+place_tells after goes_on window rest next tokens others from place old new TooLong leads begins of malformed deep large = absurd of
+place_tells after goes_on window rest next tokens others from place old new Refused leads begins of malformed deep large = absurd of
+place_tells after goes_on window rest next tokens others from place old new (UnknownEncoding name) leads begins of malformed deep large = absurd of
 
 pub window_tells : {S : Type 0} (after : S → Token → S) (goes_on : S → Bool) (told left : Option (List ℕ)) (window shown : List ℕ) (tokens : List Token) (place : Place) (part : Option Part) (old mid new : S) (fault : Fault)
     → State told left window tokens place part → shown ≡ window → mid ≡ fold after old tokens → TellsWindow after goes_on place shown mid new fault → TellsText after goes_on told old new fault
-window_tells after goes_on told left window shown tokens place part old mid new Malformed s same sunk w = (
-  none_follows told left window shown tokens place part s same w.0,
-  took_on after _ _ tokens old mid new sunk (λ others m. stuck_now told (tokens ++ others) (goes_beyond NoneWillStand told left window shown tokens place part stuck_lasts others s same m)) w.1,
-)
+window_tells after goes_on told left window shown tokens place part old mid new Malformed s same sunk w = none_follows told left window shown tokens place part s same w
 window_tells after goes_on told left window shown tokens place part old mid new TooDeep s same sunk w =
-    took_on after _ _ tokens old mid new sunk (λ others m. goes_beyond IsDeepAt told left window shown tokens place part deep_lasts others s same m) w
+    (tokens ++ w.0, goes_beyond IsDeepAt told left window shown tokens place part deep_lasts w.0 s same w.1)
 window_tells after goes_on told left window shown tokens place part old mid new LargeTag s same sunk w =
-    took_on after _ _ tokens old mid new sunk (λ others m. goes_beyond IsLargeAt told left window shown tokens place part large_lasts others s same m) w
+    (tokens ++ w.0, goes_beyond IsLargeAt told left window shown tokens place part large_lasts w.0 s same w.1)
 window_tells after goes_on told left window shown tokens place part old mid new Refused s same sunk w =
-    (w.0, took_on after _ _ tokens old mid new sunk (λ others b. begins_further told left window shown tokens others place part s same b) w.1)
+    let t = w.1 in (
+      w.0,
+      (tokens ++ t.0, begins_further told left window shown tokens t.0 place part s same t.1, t.2 ∙ ap (λ s. fold after s t.0) sunk ∙ sym (fold-append after old tokens t.0)),
+    )
 window_tells after goes_on told left window shown tokens place part old mid new NotText s same sunk w = absurd w
 window_tells after goes_on told left window shown tokens place part old mid new TooLong s same sunk w = absurd w
 window_tells after goes_on told left window shown tokens place part old mid new (UnknownEncoding name) s same sunk w = absurd w
@@ -93,13 +86,11 @@ window_tells after goes_on told left window shown tokens place part old mid new 
 
 pub text_tells : {S : Type 0} (after : S → Token → S) (goes_on : S → Bool) (told bytes : Option (List ℕ)) (old new : S) → ((P : List ℕ → Type 0) → IfSome told P → OfText P bytes)
     → (fault : Fault) → TellsText after goes_on told old new fault → Tells after bytes old new goes_on fault
-text_tells after goes_on told bytes old new all Malformed h =
-    let w = h.1 in
-    (of_all IsNeverComplete IsNoDocument bytes never_document (all IsNeverComplete h.0), (w.0, stuck_text w.0 bytes (all (MeetsFrom NoneStandsAt first_place w.0) w.1), w.2))
-text_tells after goes_on told bytes old new all NotText h = let w = h.1 in (all IsNoText h.0, (w.0, broken_text w.0 bytes (all (IsGarbledBehind w.0) w.1), w.2))
-text_tells after goes_on told bytes old new all TooDeep w = (w.0, deep_text w.0 bytes (all (MeetsFrom IsDeepAt first_place w.0) w.1), w.2)
-text_tells after goes_on told bytes old new all TooLong w = (w.0, long_text w.0 bytes (all (MeetsFrom IsLongAt first_place w.0) w.1), w.2)
-text_tells after goes_on told bytes old new all LargeTag w = (w.0, large_text w.0 bytes (all (MeetsFrom IsLargeAt first_place w.0) w.1), w.2)
+text_tells after goes_on told bytes old new all Malformed h = of_all IsNeverComplete IsNoDocument bytes never_document (all IsNeverComplete h)
+text_tells after goes_on told bytes old new all NotText h = all IsNoText h
+text_tells after goes_on told bytes old new all TooDeep w = (w.0, deep_text w.0 bytes (all (MeetsFrom IsDeepAt first_place w.0) w.1))
+text_tells after goes_on told bytes old new all TooLong w = (w.0, long_text w.0 bytes (all (MeetsFrom IsLongAt first_place w.0) w.1))
+text_tells after goes_on told bytes old new all LargeTag w = (w.0, large_text w.0 bytes (all (MeetsFrom IsLargeAt first_place w.0) w.1))
 text_tells after goes_on told bytes old new all Refused h = let w = h.1 in (h.0, (w.0, begins_text w.0 bytes (all (BeginsAt first_place w.0) w.1), w.2))
 text_tells after goes_on told bytes old new all (UnknownEncoding name) w = absurd w
 text_tells after goes_on told bytes old new all Read w = tt
@@ -116,7 +107,7 @@ unknown_told (Some b) head name same none named = (
 
 pub unknown_tells : {S : Type 0} (after : S → Token → S) (goes_on : S → Bool) (bytes : Option (List ℕ)) (old : S) (head : List ℕ) → IfSome bytes (λ b. take 1024 b ≡ take 1024 head) → encoding_at (take 1024 head) ≡ None
     → (fault : Fault) → IsUnknown (take 1024 head) fault → Tells after bytes old old goes_on fault
-unknown_tells after goes_on bytes old head same none (UnknownEncoding name) h = (unknown_told bytes head name same none h, refl)
+unknown_tells after goes_on bytes old head same none (UnknownEncoding name) h = unknown_told bytes head name same none h
 unknown_tells after goes_on bytes old head same none Memory h = tt
 unknown_tells after goes_on bytes old head same none Read h = tt
 unknown_tells after goes_on bytes old head same none Malformed h = absurd h

@@ -2,17 +2,14 @@ pub mod Runs
 pub mod StepLaws
 pub mod CharacterLaws
 pub mod TextLaws
-pub mod PassedLaws
 pub mod PartLaws
 pub mod AttributeLaws
 pub mod AttributeRuns
 pub mod SkimLaws
 pub mod TokenLaws
 pub mod PieceLaws
-pub mod PositionLaws
 pub mod NestingLaws
 pub mod PlaceLaws
-pub mod FittingLaws
 pub mod DocumentLaws
 pub mod LimitLaws
 pub mod NumberLaws
@@ -23,7 +20,6 @@ pub mod EntityLaws
 pub mod AsciiLaws
 pub mod EncodingLaws
 pub mod ReadingLaws
-pub mod GarbledLaws
 pub mod HeadLaws
 pub mod FaultLaws
 pub mod ValueLaws

@@ -8,7 +8,7 @@ use Rattle.std.proofs.lemmas.List.Concat.{flat_map-cons}
 use Rattle.feed_xml.specs.declared.place.Place.{Place}
 use Rattle.feed_xml.specs.private.Windows.{Advances}
 use Rattle.feed_xml.specs.Grammar.{Token, spelling, is_token}
-use Rattle.feed_xml.specs.private.Bounds.{MeetsFrom, IsDeepAt, IsLargeAt, IsLongAt, NoneStandsAt, NoneWillStand}
+use Rattle.feed_xml.specs.private.Bounds.{MeetsFrom, IsDeepAt, IsLargeAt, IsLongAt}
 use Rattle.feed_xml.specs.Limits.{Follows}
 use Rattle.feed_xml.specs.Pieces.{Begins, HasNoToken}
 use Rattle.feed_xml.specs.private.Places.{first_place, section_of}
@@ -27,14 +27,6 @@ deep_lasts p rest more h = (h.0, h.1, follows_lasts h.0 rest more h.2, h.3)
 
 pub large_lasts : Lasts IsLargeAt
 large_lasts p rest more h = (h.0, follows_lasts h.0 rest more h.1, h.2)
-
-pub stuck_lasts : Lasts NoneWillStand
-stuck_lasts p rest more h = λ later. subst (NoneStandsAt p) (sym (append_assoc rest more later)) (h (more ++ later))
-
--- whatever stands behind the rest, and so what does
-pub stuck_now : (told : Option (List ℕ)) (tokens : List Token) → IfSome told (MeetsFrom NoneWillStand first_place tokens) → IfSome told (MeetsFrom NoneStandsAt first_place tokens)
-stuck_now None tokens h = tt
-stuck_now (Some x) tokens h = record { rest = h.rest; place = h.place; leads = h.leads; meets = subst (NoneStandsAt h.place) (append-nil h.rest) (h.meets []) }
 
 pub long_lasts : Lasts IsLongAt
 long_lasts p rest more h = (h.0, h.1 ++ more, ap (λ (l : List ℕ). l ++ more) h.2 ∙ append_assoc h.0 h.1 more, h.3, h.4)

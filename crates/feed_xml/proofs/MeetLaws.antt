@@ -1,16 +1,15 @@
 -- What is met at a place is met behind the tokens that lead there.
-use Rattle.std.proofs.Common.{◌≡◌, ◌∙◌, ℕ, ◌≤◌, List, [], ◌∷◌, ◌++◌, length, Option, Some, None, refl, sym, subst, fold}
+use Rattle.std.proofs.Common.{◌≡◌, ℕ, ◌≤◌, List, length, Option, Some, None, sym, subst, fold}
 use Rattle.feed_xml.specs.declared.place.Place.{Place}
 use Rattle.feed_xml.specs.EncodingNames.{OfText}
 use Rattle.feed_xml.specs.Grammar.{Token, raw, reference, opening, bracket, cdata, comment, instruction, declaration, doctype, start, empty, end}
-use Rattle.feed_xml.specs.Limits.{Bound, Meets, BeginsWith, Follows, NoneMayStand, open_behind, IsDeep, IsLarge, IsLong}
+use Rattle.feed_xml.specs.Limits.{Bound, Meets, BeginsWith, Follows, open_behind, IsDeep, IsLarge, IsLong}
 use Rattle.feed_xml.specs.Pieces.{HasNoToken}
-use Rattle.feed_xml.specs.private.Bounds.{PlaceBound, MeetsFrom, NoneStandsAt, IsStart, IsDeepAt, IsLargeAt, IsLongAt}
+use Rattle.feed_xml.specs.private.Bounds.{PlaceBound, MeetsFrom, IsStart, IsDeepAt, IsLargeAt, IsLongAt}
 use Rattle.feed_xml.specs.private.Places.{first_nesting, first_place, steps}
 use Rattle.feed_xml.specs.private.Windows.{BeginsAt}
 use Rattle.feed_xml.proofs.FrontLaws.{front_of, open_all}
-use Rattle.feed_xml.proofs.PlaceLaws.{parts_of, same_section, steps-append}
-use Rattle.feed_xml.proofs.TreeLaws.{leads_through}
+use Rattle.feed_xml.proofs.PlaceLaws.{parts_of, same_section}
 
 -- what is met at each place that tokens lead to
 abbrev Tells : PlaceBound → Bound → Type 0
@@ -19,15 +18,6 @@ Tells At Limit = (tokens : List Token) (p : Place) (rest : List ℕ) → steps f
 pub meets_of : (At : PlaceBound) (Limit : Bound) → Tells At Limit → (tokens : List Token) (bytes : List ℕ) → MeetsFrom At first_place tokens bytes → Meets Limit tokens bytes
 meets_of At Limit tells tokens bytes m =
     (m.rest, m.leads.spelled, front_of tokens m.place m.leads.each m.leads.leads, tells tokens m.place m.rest m.leads.leads m.meets)
-
-none_stands : Tells NoneStandsAt NoneMayStand
-none_stands tokens p rest leads none token follows front = absurd (cc (sym (leads_through _ front.1) ∙ stuck front.0))
-  where
-    stuck : (more : List Token) → steps first_place ((tokens ++ token ∷ []) ++ more) ≡ None
-    stuck more =
-        let here : steps first_place (tokens ++ token ∷ []) ≡ None =
-        steps-append first_place tokens (token ∷ []) ∙ rw leads (none token follows) in
-        steps-append first_place (tokens ++ token ∷ []) more ∙ rw here refl
 
 deep : Tells IsDeepAt IsDeep
 deep tokens p rest leads h = go h.0 h.1 (h.2, h.3)
@@ -59,9 +49,6 @@ long tokens p rest leads h = (h.0, h.1, h.2, h.3, subst (λ (o : Option ℕ). Ha
 pub of_all : (P Q : List ℕ → Type 0) (bytes : Option (List ℕ)) → ((text : List ℕ) → P text → Q text) → OfText P bytes → OfText Q bytes
 of_all P Q None f h = tt
 of_all P Q (Some x) f h = (h.0, h.1, f h.0 h.2)
-
-pub stuck_text : (tokens : List Token) (bytes : Option (List ℕ)) → OfText (MeetsFrom NoneStandsAt first_place tokens) bytes → OfText (Meets NoneMayStand tokens) bytes
-stuck_text tokens bytes h = of_all _ _ bytes (meets_of NoneStandsAt NoneMayStand none_stands tokens) h
 
 pub deep_text : (tokens : List Token) (bytes : Option (List ℕ)) → OfText (MeetsFrom IsDeepAt first_place tokens) bytes → OfText (Meets IsDeep tokens) bytes
 deep_text tokens bytes h = of_all _ _ bytes (meets_of IsDeepAt IsDeep deep tokens) h

@@ -1,5 +1,5 @@
 -- What a reader of one token says of the bytes.
-use Rattle.std.proofs.Common.{◌≡◌, ℕ, ◌<◌, true, List, [], ◌∷◌, ◌++◌, length, map, Option, Some, None, Ok, Err, refl, sym, ap, ◌∙◌, append-nil, append_assoc, length-append, arith}
+use Rattle.std.proofs.Common.{◌≡◌, ℕ, ◌<◌, true, List, [], ◌∷◌, ◌++◌, length, map, Option, Some, None, Ok, Err, refl, sym, ap, ◌∙◌, append-nil, length-append, arith}
 use Rattle.std.specs.List.{list_all, flat_map}
 use Rattle.std.proofs.lemmas.Bool.{and_parts}
 use Rattle.std.proofs.lemmas.List.Concat.{flat_map-cons}
@@ -91,22 +91,6 @@ stretch_begins n bytes run rest none whole each some = record {
   within = rw none (section_within run);
   some = some;
 }
-
--- its first byte
-pub stretch_first : (section : Option ℕ) (bytes run rest : List ℕ) → Begins section bytes (map (cdata 0) run) rest → (b : ℕ) × (behind : List ℕ) × Begins section bytes (cdata 0 b ∷ []) behind
-stretch_first section bytes [] rest begins = absurd (omega (arith, ap length begins.spelled, begins.some))
-stretch_first section bytes (b ∷ run) rest begins =
-    let whole : bytes ≡ b ∷ (run ++ rest) = begins.spelled ∙ ap (λ (l : List ℕ). l ++ rest) (section_bytes (b ∷ run)) in
-    let first = and_parts (is_token (cdata 0 b)) (list_all is_token (map (cdata 0) run)) begins.each in (
-      b,
-      run ++ rest,
-      record {
-        spelled = whole ∙ ap (λ (l : List ℕ). l ++ (run ++ rest)) (sym (section_bytes (b ∷ [])));
-        each = rw first.0 refl;
-        within = (begins.within.0, tt);
-        some = omega (arith, ap length whole);
-      },
-    )
 
 -- ---- where there is no token
 

@@ -235,16 +235,6 @@ placed_in p tokens q leads = tails_in tokens p.tail q.tail (parts_of p tokens q 
 pub same_section : (tokens : List Token) (q : Place) → steps first_place tokens ≡ Some q → section_of q.tail ≡ section_past tokens
 same_section tokens q leads = tails_past tokens (Text 0) q.tail (parts_of first_place tokens q leads).tail
 
--- a token that stands in another section leads nowhere
-pub elsewhere : (q : Place) (token : Token) → (section_around token ≡ section_of q.tail → steps q (token ∷ []) ≡ None) → steps q (token ∷ []) ≡ None
-elsewhere q token none = go (steps q (token ∷ [])) refl
-  where
-    go : (o : Option Place) → steps q (token ∷ []) ≡ o → o ≡ None
-    go None e = refl
-    go (Some r) e =
-        let within = placed_in q (token ∷ []) r e in
-        sym e ∙ none within.0
-
 -- ---- a stretch of a section
 
 stretch_distinct : (run : List ℕ) → list_all has_distinct (map (cdata 0) run) ≡ true
@@ -273,10 +263,16 @@ stretch_ok p run i h is order =
       order = stretch_order p.prolog run ∙ order;
     })
 
-pub stretch_outside : (p : Place) (b : ℕ) → is_nothing p.nesting.names ≡ true → steps p (cdata 0 b ∷ []) ≡ None
-stretch_outside p b h = rw h refl
+stretch_first : (p : Place) (b : ℕ) (run : List ℕ) → steps p (cdata 0 b ∷ []) ≡ None → steps p (map (cdata 0) (b ∷ run)) ≡ None
+stretch_first p b run none = steps-append p (cdata 0 b ∷ []) (map (cdata 0) run) ∙ ap (option_and_then (λ q. steps q (map (cdata 0) run))) none
 
-pub stretch_elsewhere : (p : Place) (b : ℕ) → next_tail p.tail (cdata 0 b) ≡ None → steps p (cdata 0 b ∷ []) ≡ None
-stretch_elsewhere p b none =
-    ap (λ (o : Option Tail). place_from (nests p.nesting (cdata 0 b ∷ [])) (option_and_then (λ t. tail_after t []) o) (prolog_after p.prolog (cdata 0 b ∷ []))) none
-    ∙ none_right (nests p.nesting (cdata 0 b ∷ [])) (prolog_after p.prolog (cdata 0 b ∷ []))
+pub stretch_outside : (p : Place) (run : List ℕ) → (length run ≡ 0 → ⊥) → is_nothing p.nesting.names ≡ true → steps p (map (cdata 0) run) ≡ None
+stretch_outside p [] some h = absurd (some refl)
+stretch_outside p (b ∷ run) some h = stretch_first p b run (rw h refl)
+
+pub stretch_elsewhere : (p : Place) (run : List ℕ) → (length run ≡ 0 → ⊥) → ((b : ℕ) → next_tail p.tail (cdata 0 b) ≡ None) → steps p (map (cdata 0) run) ≡ None
+stretch_elsewhere p [] some none = absurd (some refl)
+stretch_elsewhere p (b ∷ run) some none =
+    stretch_first p b run
+    (ap (λ (o : Option Tail). place_from (nests p.nesting (cdata 0 b ∷ [])) (option_and_then (λ t. tail_after t []) o) (prolog_after p.prolog (cdata 0 b ∷ []))) (none b)
+    ∙ none_right (nests p.nesting (cdata 0 b ∷ [])) (prolog_after p.prolog (cdata 0 b ∷ [])))

@@ -1,7 +1,6 @@
 -- Where the reading of a document stands.
-use Rattle.std.proofs.Common.{append-nil, ◌≡◌, ◌≤◌, ℕ, ◌+◌, ◌-◌, arith, true, false, List, [], ◌++◌, length, take, drop, Option, Some, None, refl, sym, ap, subst, ◌∙◌, append_assoc, take-append-drop, take-add, take_at, drop_at}
+use Rattle.std.proofs.Common.{append-nil, ◌≡◌, ℕ, ◌+◌, ◌-◌, true, false, List, [], ◌++◌, length, take, drop, Option, Some, None, refl, sym, ap, subst, ◌∙◌, append_assoc, take-append-drop, take-add, take_at, drop_at}
 use Rattle.std.specs.Prelude.{IfSome, option_and_then}
-use Rattle.std.proofs.lemmas.List.{length-take}
 use Rattle.std.specs.Io.KnownBytes.{Consumes, IsAtEnd, prepend_known}
 use Rattle.std.proofs.KnownBytes.{Consumes-trans, prepend_known-nil}
 use Rattle.feed_xml.specs.declared.place.Place.{Place}
@@ -9,21 +8,20 @@ use Rattle.feed_xml.specs.declared.texts.Part.{Part}
 use Rattle.feed_xml.specs.declared.texts.Part.TheVariants.{Whole}
 use Rattle.feed_xml.specs.private.Windows.{Advances, BeginsAt, Grows, IsTold, is_whole}
 use Rattle.feed_xml.specs.Grammar.{Token}
-use Rattle.feed_xml.specs.private.Bounds.{MeetsFrom, IsLongAt, NoneStandsAt}
+use Rattle.feed_xml.specs.private.Bounds.{MeetsFrom, IsLongAt}
 use Rattle.feed_xml.specs.Pieces.{HasNoToken}
 use Rattle.feed_xml.specs.private.Places.{Completes, IsComplete, IsNeverComplete, first_place, section_of}
 use Rattle.feed_xml.specs.Documents.{IsNoText}
 use Rattle.feed_xml.specs.Texts.{follow, is_start, IsSmall}
 use Rattle.feed_xml.proofs.Runs.{rest_is}
-use Rattle.feed_xml.proofs.DocumentLaws.{at_start, advance_further, advance_longer, a_round, known_malformed, known_told, known_cut, known_garbled, known_half, known_stuck, nothing_read, whole_document}
+use Rattle.feed_xml.proofs.DocumentLaws.{at_start, advance_further, advance_longer, a_round, known_malformed, known_told, known_cut, known_garbled, known_half, nothing_read, whole_document}
 use Rattle.feed_xml.proofs.LimitLaws.{Lasts, known_limit, long_lasts}
 use Rattle.feed_xml.proofs.TextLaws.{follow-append}
 
 -- all that was read is a text up to here; or it is none, by the bytes behind it
 abbrev pub Reaches : Option Part → List ℕ → List ℕ → Type 0
 Reaches (Some part) text bad = (bad ≡ []) × (follow Whole text ≡ Some part)
-Reaches None text bad =
-    (worst more : List ℕ) × (bad ≡ worst ++ more) × (length worst ≤ 4) × (follow Whole (text ++ worst) ≡ None)
+Reaches None text bad = follow Whole (text ++ bad) ≡ None
 
 -- The text so far is what was told without what is left: these tokens, to a place, and then the window. Behind it stand the bytes that are none of a text.
 pub record State (told left : Option (List ℕ)) (window : List ℕ) (tokens : List Token) (place : Place) (part : Option Part) : Type 0 where
@@ -74,17 +72,13 @@ reads_on told left later before window tokens place part piece (Some q) s c g = 
 }
 reads_on told left later before window tokens place part piece None s c g =
     let all = Consumes-trans told left later s.text piece (nothing_bad told left s.text s.bad s.at_part.0 s.read) c in
-    let bad = g.1 ++ g.2 in
-    let parts : s.text ++ piece ≡ (s.text ++ g.0) ++ bad = ap (λ (l : List ℕ). s.text ++ l) g.3 ∙ sym (append_assoc s.text g.0 bad) in
-    let far = g.0 ++ g.1 in
-    let none : follow Whole ((s.text ++ g.0) ++ g.1) ≡ None =
-    ap (follow Whole) (append_assoc s.text g.0 g.1) ∙ follow-append Whole s.text far ∙ ap (option_and_then (λ (p : Part). follow p far)) s.at_part.1 ∙ g.6 in
+    let parts : s.text ++ piece ≡ (s.text ++ g.0) ++ g.1 = ap (λ (l : List ℕ). s.text ++ l) g.2 ∙ sym (append_assoc s.text g.0 g.1) in
     record {
       text = s.text ++ g.0;
-      bad = bad;
-      read = set_apart told later (s.text ++ g.0) bad (subst (Consumes told later) parts all);
-      advances = subst (λ (l : List ℕ). Advances (s.text ++ g.0) tokens l first_place place) (sym g.4) (advance_longer s.text before g.0 tokens first_place place s.advances);
-      at_part = (g.1, g.2, refl, g.5, none);
+      bad = g.1;
+      read = set_apart told later (s.text ++ g.0) g.1 (subst (Consumes told later) parts all);
+      advances = subst (λ (l : List ℕ). Advances (s.text ++ g.0) tokens l first_place place) (sym g.3) (advance_longer s.text before g.0 tokens first_place place s.advances);
+      at_part = ap (follow Whole) (sym parts) ∙ follow-append Whole s.text piece ∙ ap (option_and_then (λ (p : Part). follow p piece)) s.at_part.1 ∙ g.4;
     }
 
 -- tokens were handed on
@@ -112,12 +106,7 @@ goes_beyond Limit told left window shown tokens q part lasts others s is m =
 pub is_garbled : (told left : Option (List ℕ)) (window : List ℕ) (tokens : List Token) (q : Place) (part : Option Part) → part ≡ None → State told left window tokens q part
     → IfSome told IsNoText
 is_garbled told left window tokens q (Some p) is s = absurd cc
-is_garbled told left window tokens q None is s =
-    let r = s.at_part in
-    let none : follow Whole (s.text ++ s.bad) ≡ None =
-    ap (λ (l : List ℕ). follow Whole (s.text ++ l)) r.2 ∙ ap (follow Whole) (sym (append_assoc s.text r.0 r.1)) ∙ follow-append Whole (s.text ++ r.0) r.1
-    ∙ ap (option_and_then (λ (p : Part). follow p r.1)) r.4 in
-    known_garbled told left (s.text ++ s.bad) (put_back told left s.text s.bad s.read) none
+is_garbled told left window tokens q None is s = known_garbled told left (s.text ++ s.bad) (put_back told left s.text s.bad s.read) s.at_part
 
 pub is_cut : (told left : Option (List ℕ)) (window : List ℕ) (tokens : List Token) (q : Place) (part : Part) → State told left window tokens q (Some part) → IsAtEnd left → HasNoToken (section_of q.tail) window
     → is_whole window q part ≡ false → IfSome told IsNeverComplete
@@ -166,25 +155,17 @@ kept old piece window new start part next is from g =
     let d : drop start window ≡ piece = ap (drop start) is ∙ drop_at old piece start (sym from) in
     subst (λ (l : List ℕ). Grows old new part l next) d (subst (λ (l : List ℕ). Grows l new part (drop start window) next) t g)
 
-length-take-most : (n : ℕ) (l : List ℕ) → length (take n l) ≤ n
-length-take-most n l = omega (arith, length-take n l)
-
 -- a piece that is none of a text, of which so many bytes are kept
-pub cut : (items shown new : List ℕ) (start whole : ℕ) (part : Part) → shown ≡ items → follow part (take (whole + 4) (take (length shown - start) (drop start shown))) ≡ None
+pub cut : (items shown new : List ℕ) (start whole : ℕ) (part : Part) → shown ≡ items → follow part (take (length shown - start) (drop start shown)) ≡ None
     → new ≡ take (start + whole) items → Grows (take start items) new part (drop start items) None
 cut items shown new start whole part is none kept_so =
     let piece = drop start items in
-    let behind = drop whole piece in
-    let same : take (length shown - start) (drop start shown) ≡ piece = rest_is shown start ∙ ap (drop start) is in
-    let parts : piece ≡ take whole piece ++ (take 4 behind ++ drop 4 behind) =
-    sym (take-append-drop whole piece) ∙ ap (λ (l : List ℕ). take whole piece ++ l) (sym (take-append-drop 4 behind)) in (
+    let same : take (length shown - start) (drop start shown) ≡ piece = rest_is shown start ∙ ap (drop start) is in (
       take whole piece,
-      take 4 behind,
-      drop 4 behind,
-      parts,
+      drop whole piece,
+      sym (take-append-drop whole piece),
       kept_so ∙ take-add start whole items,
-      length-take-most 4 behind,
-      ap (follow part) (sym (take-add whole 4 piece) ∙ ap (take (whole + 4)) (sym same)) ∙ none,
+      ap (follow part) (sym same) ∙ none,
     )
 
 -- ---- a turn
@@ -219,13 +200,6 @@ last_state told left later before window tokens place was part piece next last s
     let t = reads_on_at told left later before window tokens place was part piece next s is c g in
     let same = same_window before window piece part last (subst (Grows before window part piece) found g) ending_is in
     subst (λ (l : List ℕ). State told later l tokens place (Some last)) same (subst (λ (o : Option Part). State told later window tokens place o) found t)
-
-pub ends_stuck : (told left later : Option (List ℕ)) (before window : List ℕ) (tokens : List Token) (place : Place) (was : Option Part) (part : Part) (piece : List ℕ) (next : Option Part) (last : Part)
-    → State told left before tokens place was → was ≡ Some part → Consumes left later piece → Grows before window part piece next → next ≡ Some last → IsAtEnd later
-    → piece ≡ [] → HasNoToken (section_of place.tail) before → IfSome told (MeetsFrom NoneStandsAt first_place tokens)
-ends_stuck told left later before window tokens place was part piece next last s is c g found end_here ending_is none =
-    let t = last_state told left later before window tokens place was part piece next last s is c g found ending_is in
-    known_stuck told later t.text before tokens place (nothing_bad told later t.text t.bad t.at_part.0 t.read) end_here t.advances none
 
 pub ends_half : (told left later : Option (List ℕ)) (before window : List ℕ) (tokens : List Token) (place : Place) (was : Option Part) (part : Part) (piece : List ℕ) (next : Option Part) (last : Part)
     → State told left before tokens place was → was ≡ Some part → Consumes left later piece → Grows before window part piece next → next ≡ Some last → IsAtEnd later

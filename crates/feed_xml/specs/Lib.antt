@@ -22,5 +22,4 @@ pub mod Trees
 pub mod private
 pub mod Encodings
 pub mod EncodingNames
-pub mod Positions
 pub mod Faults

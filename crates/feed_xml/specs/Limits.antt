@@ -1,5 +1,5 @@
 -- What goes beyond what is taken.
-use Rattle.std.specs.Prelude.{◌≡◌, ◌<◌, ◌≤◌, ◌⊎◌, ℕ, suc, ◌-◌, true, List, [], ◌∷◌, ◌++◌, length}
+use Rattle.std.specs.Prelude.{◌≡◌, ◌<◌, ◌≤◌, ℕ, suc, ◌-◌, true, List, ◌++◌, length}
 use Rattle.std.specs.Prelude.{fold}
 use Rattle.std.specs.List.{flat_map}
 use Rattle.feed_xml.specs.Distinct.{is_large}
@@ -7,7 +7,6 @@ use Rattle.feed_xml.specs.Documents.{AreFront}
 use Rattle.feed_xml.specs.Grammar.{Attribute, Token, start, end, spelling, is_token}
 use Rattle.feed_xml.specs.Pieces.{HasNoToken}
 use Rattle.feed_xml.specs.Sections.{section_past}
-use Rattle.feed_xml.specs.Texts.{IsText}
 
 -- what may be said of the first tokens of a text and of what follows them
 abbrev pub Bound : Type 1
@@ -27,11 +26,6 @@ BeginsWith = Meets (λ tokens rest. Unit {0})
 abbrev pub Follows : Token → List ℕ → Type 0
 Follows token rest = (more : List ℕ) × (rest ≡ spelling token ++ more) × (is_token token ≡ true)
 
--- with no token that follows does a document go on
-abbrev pub NoneMayStand : Bound
-NoneMayStand tokens rest =
-    (token : Token) → Follows token rest → ¬ (AreFront (tokens ++ token ∷ []))
-
 -- how many elements are open behind a token
 abbrev pub open_behind : ℕ → Token → ℕ
 open_behind n (start name attributes space) = suc n
@@ -47,19 +41,6 @@ IsDeep tokens rest =
 -- a tag follows with more attributes, or more bytes of them, than are taken
 abbrev pub IsLarge : Bound
 IsLarge tokens rest = (tag : Token) × Follows tag rest × (is_large tag ≡ true)
-
--- no text begins so
-abbrev pub NoneBegins : List ℕ → Type 0
-NoneBegins front = (other : List ℕ) → ¬ (IsText (front ++ other))
-
--- behind bytes that begin with no token come at most four with which no text goes on, or the end,
--- at which none ends
-abbrev pub IsGarbled : Bound
-IsGarbled tokens rest =
-    (good bad more : List ℕ) × (rest ≡ good ++ (bad ++ more))
-    × HasNoToken (section_past tokens) good × (length bad ≤ 4)
-    × (NoneBegins (flat_map spelling tokens ++ (good ++ bad))
-    ⊎ ((more ≡ []) × ¬ (IsText (flat_map spelling tokens ++ (good ++ bad)))))
 
 -- more than 4,194,304 bytes follow that begin with no token
 abbrev pub IsLong : Bound

@@ -1,9 +1,7 @@
-pub mod Fitting
 pub mod NameCharacters
 pub mod Decoders
 pub mod Places
 pub mod Windows
 pub mod Bounds
 pub mod References
-pub mod Passed
 pub mod Faults

@@ -5,8 +5,7 @@ ghost use Rattle.std.specs.List.{list_all};
 ghost use Rattle.std.specs.Str.{chars};
 ghost use Rattle.feed_xml.specs.Characters.{are_of_name};
 ghost use Rattle.feed_xml.specs.Grammar.{is_space, starts_name, is_name_byte, is_plain, is_value_byte, is_quote, is_filled, is_unbracketed, begins_name, is_reference_byte, is_digit, is_hex_digit, is_name};
-ghost use Rattle.feed_xml.specs.Kinds.{passes, first_passes};
-ghost use Rattle.feed_xml.specs.Positions.{has_column, is_continuation};
+ghost use Rattle.feed_xml.specs.Kinds.{passes, first_passes, has_column, is_continuation};
 
 use crate::characters::are_of_name;
 

@@ -1,8 +1,8 @@
 //! The reading of documents.
 
-ghost use Rattle.std.specs.Prelude.{◌≡◌, ◌≤◌, ◌<◌, ◌∷◌, ℕ, List, map, IfOk, IfErr, OnOk, OnErr, true, false, vec_len, IsErrOf, IfSome, [], length, take, drop, fold, Some, None};
+ghost use Rattle.std.specs.Prelude.{◌≡◌, ◌≤◌, ◌<◌, ℕ, List, IfOk, IfErr, OnOk, OnErr, true, false, vec_len, IsErrOf, IfSome, [], length, take, drop, fold, Some, None};
 ghost use Rattle.std.specs.Io.KnownBytes.{Consumes, IsAtEnd};
-ghost use Rattle.feed_xml.specs.Grammar.{Token, raw};
+ghost use Rattle.feed_xml.specs.Grammar.{Token};
 ghost use Rattle.feed_xml.specs.Pieces.{Begins, Explains, HasNoToken};
 ghost use Rattle.feed_xml.specs.View.{piece_view};
 ghost use Rattle.feed_xml.specs.private.Places.{IsComplete, section_of, steps};
@@ -14,7 +14,7 @@ ghost use Rattle.feed_xml.specs.Encodings.{decoded};
 ghost use Rattle.feed_xml.specs.private.Decoders.{decoded_rest, text_left};
 ghost use Rattle.feed_xml.specs.Faults.{IsOfEnd, IsOfPlace, IsOfReading, Tells};
 ghost use Rattle.feed_xml.specs.Texts.{IsSmall, is_start};
-ghost use Rattle.feed_xml.specs.private.Bounds.{IsDeepAt, IsLargeAt};
+ghost use Rattle.feed_xml.specs.private.Bounds.{IsLargeTag, OpensOneMore};
 
 use crate::bytes::Bytes;
 use crate::classes::is_filled;
@@ -38,76 +38,28 @@ fn next_piece<'a>(place: &Place, rest: &'a [u8]) -> Result<(Piece<'a>, &'a [u8])
     read_piece(place.section(), rest)
 }
 
-// Goes on by what the rest begins with, or of a stretch of text by as much as may stand here, and
-// gives it and what follows it.
-fn take_some<'a>(
-    place: &mut Place,
-    piece: Piece<'a>,
-    rest: &'a [u8],
-    next: &'a [u8],
-) -> Result<(Piece<'a>, &'a [u8]), Fault>
-    requires { Begins (section_of place.old.tail) rest.now (piece_view piece) next.now }
-    ensures begins { IfOk result (λ x. Begins (section_of place.old.tail) rest.entry.now
-        (piece_view x.0) x.1.now) }
-    ensures ok { IfOk result (λ x. steps place.old (piece_view x.0) ≡ Some place.new) }
-    ensures malformed { IsErrOf result Fault.Malformed → (token : Token) × (behind : List ℕ)
-        × Begins (section_of place.old.tail) rest.entry.now (token ∷ []) behind
-        × (steps place.old (token ∷ []) ≡ None) }
-    ensures deep { IsErrOf result Fault.TooDeep → IsDeepAt place.old rest.entry.now }
-    ensures large { IsErrOf result Fault.LargeTag → IsLargeAt place.old rest.entry.now }
+// Goes on by what the rest begins with.
+fn take_some(place: &mut Place, piece: &Piece<'_>) -> Result<(), Fault>
+    ensures ok { OnOk result (steps place.old (piece_view piece.now) ≡ Some place.new) }
+    ensures malformed { IsErrOf result Fault.Malformed
+        → steps place.old (piece_view piece.now) ≡ None }
+    ensures deep { IsErrOf result Fault.TooDeep → OpensOneMore place.old (piece_view piece.now) }
+    ensures large { IsErrOf result Fault.LargeTag → IsLargeTag (piece_view piece.now) }
     ensures fault { IfErr result IsOfPlace }
 {
     match piece {
-        Piece::Markup(token) => {
-            place.take_markup(&token)?;
-            Ok((Piece::Markup(token), next))
-        }
-        Piece::Section(run) => {
-            place.take_section(run)?;
-            Ok((Piece::Section(run), next))
-        }
-        Piece::Text(run) => match place.take_text(run) {
-            Ok(()) => Ok((Piece::Text(run), next)),
-            Err(Fault::Malformed) => take_front(place, run, rest),
-            Err(fault) => Err(fault),
-        },
+        Piece::Markup(token) => place.take_markup(token),
+        Piece::Section(run) => place.take_section(run),
+        Piece::Text(run) => place.take_text(run),
     }
 }
 
-// The same of a stretch of text that may not stand here.
-fn take_front<'a>(
-    place: &mut Place,
-    run: &'a [u8],
-    rest: &'a [u8],
-) -> Result<(Piece<'a>, &'a [u8]), Fault>
-    requires begins { (next : List ℕ)
-        × Begins (section_of place.old.tail) rest.now (map raw run.now) next }
-    requires malformed { steps place.old (map raw run.now) ≡ None }
-    ensures begins { IfOk result (λ x. Begins (section_of place.old.tail) rest.entry.now
-        (piece_view x.0) x.1.now) }
-    ensures ok { IfOk result (λ x. steps place.old (piece_view x.0) ≡ Some place.new) }
-    ensures malformed { IsErrOf result Fault.Malformed → (token : Token) × (behind : List ℕ)
-        × Begins (section_of place.old.tail) rest.entry.now (token ∷ []) behind
-        × (steps place.old (token ∷ []) ≡ None) }
-    ensures deep { ¬ (IsErrOf result Fault.TooDeep) }
-    ensures large { ¬ (IsErrOf result Fault.LargeTag) }
-    ensures fault { IfErr result IsOfPlace }
+// Tells where what may not stand begins.
+fn stop<S: Sink>(place: &Place, rest: &[u8], sink: &mut S)
+    ensures { sink.new ≡ sink.old }
 {
-    let fitting = place.fitting(run);
-    if fitting == 0 {
-        return Err(Fault::Malformed);
-    }
-    let front = first(run, fitting);
-    place.take_text(front)?;
-    Ok((Piece::Text(front), behind(rest, fitting)))
-}
-
-// The first bytes, as many as the count says.
-fn first(bytes: &[u8], count: usize) -> &[u8]
-    requires { count ≤ length bytes.now }
-    ensures { result.now ≡ take count bytes.now }
-{
-    &bytes[..count]
+    let (front, stuck) = rest.split_at(place.fitting(rest));
+    sink.stuck(front, stuck);
 }
 
 // Hands on each token that is whole, and counts their bytes.
@@ -125,22 +77,22 @@ fn drain<S: Sink>(window: &[u8], place: &mut Place, sink: &mut S) -> Result<usiz
     'reading: loop {
         match next_piece(place, rest) {
             Ok((piece, next)) => {
-                let (taken, behind) = match take_some(place, piece, rest, next) {
-                    Ok(found) => found,
+                match take_some(place, &piece) {
+                    Ok(()) => {}
                     Err(fault) => {
-                        sink.stuck(rest);
+                        stop(place, rest, sink);
                         return Err(fault);
                     }
-                };
-                match sink.take(taken, &rest[..rest.len() - behind.len()]) {
-                    Ok(true) => rest = behind,
+                }
+                match sink.take(piece, &rest[..rest.len() - next.len()]) {
+                    Ok(true) => rest = next,
                     Ok(false) => return Err(Fault::Refused),
                     Err(_) => return Err(Fault::Memory),
                 }
             }
             Err(Stop::More) => return Ok(window.len() - rest.len()),
             Err(Stop::Never) => {
-                sink.stuck(rest);
+                stop(place, rest, sink);
                 return Err(Fault::Malformed);
             }
         }

@@ -4,16 +4,15 @@ ghost use Rattle.std.specs.Prelude.{◌≡◌, ◌≤◌, ◌∷◌, [], ℕ, So
 ghost use Rattle.feed_xml.specs.Distinct.{are_many, is_large};
 ghost use Rattle.feed_xml.specs.Grammar.{raw, cdata, are_distinct};
 ghost use Rattle.feed_xml.specs.private.Bounds.{IsStart};
-ghost use Rattle.feed_xml.specs.private.Fitting.{brackets_with, fitting, fitting_behind};
 ghost use Rattle.feed_xml.specs.Sections.{with_bracket};
 ghost use Rattle.feed_xml.specs.Trees.{next_tail, tail_after, tail_in};
-ghost use Rattle.feed_xml.specs.private.Places.{is_nothing, further, ordered, prolog_after, brackets_after, section_of, is_clear, steps, first_place, is_last};
+ghost use Rattle.feed_xml.specs.private.Places.{further, ordered, prolog_after, brackets_after, section_of, is_clear, steps, first_place, is_last};
 ghost use Rattle.feed_xml.specs.Distinct.{has_distinct};
 ghost use Rattle.feed_xml.specs.Faults.{IsOfPlace};
 ghost use Rattle.feed_xml.specs.View.{token_view};
 
 use crate::attributes::Attributes;
-use crate::classes::is_space;
+use crate::classes::{is_plain, is_space};
 use crate::fault::Fault;
 use crate::nesting::{MOST_OPEN, Nesting};
 use crate::sections::ends_section;
@@ -66,39 +65,21 @@ fn brackets_behind(before: u8, run: &[u8]) -> Option<u8>
     Some(count)
 }
 
-// The same behind one byte more, unless that may not stand there: outside of the root stands white
-// space alone.
-fn brackets_with(is_outside: bool, before: u8, byte: u8) -> Option<u8>
-    ensures { result ≡ brackets_with is_outside before byte }
-{
-    if is_outside && !is_space(byte) {
-        return None;
-    }
-    if byte == b']' {
-        return Some(with_bracket(before));
-    }
-    if byte == b'>' && before == 2 {
-        None
-    } else {
-        Some(0)
-    }
-}
-
 // How many bytes of a text may stand there, from the first on, by the number of its closing
 // brackets before them.
 fn fitting(is_outside: bool, before: u8, run: &[u8]) -> usize
-    ensures { result ≡ fitting is_outside before run.now }
+    ensures { result ≤ length run.now }
 {
     let mut count = before;
     let mut rest = run;
     while let [b, tail @ ..] = rest {
-        let Some(next) = brackets_with(is_outside, count, *b) else {
-            return run.len() - rest.len();
-        };
-        count = next;
+        if !is_plain(*b) || (is_outside && !is_space(*b)) || (*b == b'>' && count == 2) {
+            break;
+        }
+        count = if *b == b']' { with_bracket(count) } else { 0 };
         rest = tail;
     }
-    run.len()
+    run.len() - rest.len()
 }
 
 /// What stands before the next token.
@@ -349,10 +330,9 @@ impl Place {
         }
     }
 
-    /// How many bytes of a stretch of text may stand here, from its first on.
+    /// How many bytes of a text may stand here, from the first on.
     pub(crate) fn fitting(&self, run: &[u8]) -> usize
-        ensures { result
-            ≡ fitting_behind (is_nothing self.now.nesting.names) self.now.tail run.now }
+        ensures { result ≤ length run.now }
     {
         match self.tail {
             Tail::Text(count) => fitting(self.nesting.is_outside(), count, run),
@@ -373,9 +353,12 @@ impl Place {
     /// Goes on by a stretch of a section.
     pub(crate) fn take_section(&mut self, run: &[u8]) -> Result<(), Fault>
         ensures ok { OnOk result (steps self.old (map (cdata 0) run.now) ≡ Some self.new) }
-        ensures malformed { OnErr result ((b : ℕ) → steps self.old (cdata 0 b ∷ []) ≡ None) }
+        ensures malformed { OnErr result (steps self.old (map (cdata 0) run.now) ≡ None) }
         ensures fault { IfErr result (λ fault. fault ≡ Fault.Malformed) }
     {
+        if run.len() == 0 {
+            return Ok(());
+        }
         if self.nesting.is_outside() {
             return Err(Fault::Malformed);
         }

@@ -1,8 +1,6 @@
 //! Where tokens go.
 
 ghost use Rattle.std.specs.Prelude.{◌≡◌, IfOk, OnOk, fold};
-ghost use Rattle.std.specs.List.{flat_map};
-ghost use Rattle.feed_xml.specs.Grammar.{spelling};
 ghost use Rattle.feed_xml.specs.View.{piece_view};
 
 use crate::pieces::Piece;
@@ -21,11 +19,11 @@ pub trait Sink {
 
     /// Takes what was read next, which is spelled so, and tells whether it takes more.
     fn take(&mut self, piece: Piece<'_>, spelled: &[u8]) -> Result<bool, AllocError>
-        requires { spelled.now ≡ flat_map spelling (piece_view piece) }
         ensures taken { OnOk result (self.new ≡ fold after self.old (piece_view piece.entry)) }
         ensures more { IfOk result (λ more. more ≡ goes_on self.new) };
 
-    /// Takes notice that what begins here is malformed. Nothing is handed on after it.
-    fn stuck(&mut self, rest: &[u8])
+    /// Takes notice that behind these bytes of a text the rest is malformed. Nothing is handed on
+    /// after it.
+    fn stuck(&mut self, front: &[u8], rest: &[u8])
         ensures { self.new ≡ self.old };
 }

@@ -1,8 +1,7 @@
 //! The characters of a text, byte by byte.
 
-ghost use Rattle.std.specs.Prelude.{◌≡◌, ◌<◌, ◌≤◌, ℕ, ◌+◌, Some, None, false, IfOk, IfErr, IfSome, length, take, if◌then◌else◌};
+ghost use Rattle.std.specs.Prelude.{◌≡◌, ◌≤◌, Some, None, IfOk, IfErr, IfSome, OnErr, length, if◌then◌else◌};
 ghost use Rattle.feed_xml.specs.Texts.{next_part, follow, is_start, IsSmall};
-ghost use Rattle.feed_xml.specs.private.Passed.{Passes};
 
 use crate::characters::is_char;
 
@@ -80,7 +79,7 @@ fn last_start(part: Part, at: usize, other: usize) -> usize
 // The bytes behind the characters of one byte at the front.
 #[inline(always)]
 fn behind_ascii(bytes: &[u8]) -> &[u8]
-    ensures passed { Passes Part.Whole Part.Whole bytes.now result.now }
+    ensures same { follow Part.Whole result.now ≡ follow Part.Whole bytes.now }
     ensures shorter { length result.now ≤ length bytes.now }
 {
     let mut rest = bytes;
@@ -96,8 +95,7 @@ fn behind_ascii(bytes: &[u8]) -> &[u8]
 // The same, where a character begins there.
 #[inline(always)]
 fn skip_ascii(part: Part, bytes: &[u8]) -> &[u8]
-    ensures passed { Passes part part bytes.now result.now }
-    ensures same { is_start part ≡ false → result.now ≡ bytes.now }
+    ensures same { follow part result.now ≡ follow part bytes.now }
     ensures shorter { length result.now ≤ length bytes.now }
 {
     match part {
@@ -107,12 +105,12 @@ fn skip_ascii(part: Part, bytes: &[u8]) -> &[u8]
 }
 
 /// The part behind these bytes, where they are of a text; else how many come before the character
-/// that is none, which ends within four bytes.
+/// that is none.
 pub(crate) fn follow(part: Part, bytes: &[u8]) -> Result<Part, usize>
     requires { IsSmall part }
     ensures gives { IfOk result (λ next. follow part bytes.now ≡ Some next) }
     ensures small { IfOk result IsSmall }
-    ensures none { IfErr result (λ whole. follow part (take (whole + 4) bytes.now) ≡ None) }
+    ensures none { OnErr result (follow part bytes.now ≡ None) }
     ensures within { IfErr result (λ whole. whole ≤ length bytes.now) }
 {
     let mut part = part;

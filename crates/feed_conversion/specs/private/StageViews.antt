@@ -24,11 +24,10 @@ stage_view stage.Unbegun = unbegun
 stage_view (stage.Refused refusal) = refused refusal
 stage_view (stage.Within b) = within (begun_view b)
 
-abbrev pub state : {P N : Type 0} → Lent → P → N → LentStage → State P N
-state options parts notes stage =
+abbrev pub state : {P : Type 0} → Lent → P → LentStage → State P
+state options parts stage =
     record {
       options = options_view options;
       parts = parts;
-      notes = notes;
       stage = stage_view stage;
     }

@@ -4,7 +4,7 @@ use Rattle.std.specs.Prelude.{◌++◌, Option, Some, None, Result, Ok, Err, if�
 use Rattle.std.specs.Prelude.{decimal, nat_le, nat_lt, length, take, drop, fold, option_map}
 use Rattle.std.specs.Option.{unwrap_or}
 use Rattle.std.specs.Str.{bytes_eq}
-use Rattle.feed_xml.specs.declared.position.Position.{Position}
+use Rattle.std.specs.Prelude.{⊤}
 use Rattle.csv_records.specs.RecordTexts.{limit, records_text}
 use Rattle.feed_outline.specs.Composites.{has_stranger}
 use Rattle.feed_outline.specs.Names.{stranger}
@@ -13,16 +13,14 @@ use Rattle.onix_records.specs.Grammar.{most_records}
 use Rattle.onix_records.specs.declared.row.Opening.{Opening}
 use Rattle.feed_mapping.specs.Elements.{Composite, composite}
 use Rattle.feed_mapping.specs.Header.{Heading, heading_in, message_fields}
-use Rattle.feed_mapping.specs.Notes.{Note, note, wrong}
+use Rattle.feed_mapping.specs.Notes.{Reason, wrong}
 use Rattle.feed_mapping.specs.Parties.{Pair}
 use Rattle.feed_mapping.specs.ProductRecords.{Variant, variants}
-use Rattle.feed_mapping.specs.Products.{reference_in}
 use Rattle.feed_mapping.specs.declared.header.HeaderRefusal.{HeaderRefusal}
 use Rattle.feed_mapping.specs.declared.notes.Wrong.TheVariants.{TooLarge}
 use Rattle.feed_conversion.specs.Conversion.{Options, header_refused, supply_choices}
-use Rattle.feed_conversion.specs.Keeping.{Keeping}
 use Rattle.feed_conversion.specs.Messages.{closing_record}
-use Rattle.feed_conversion.specs.Packing.{beyond_at, product_notes}
+use Rattle.feed_conversion.specs.Packing.{beyond_at}
 use Rattle.feed_conversion.specs.Tallies.{counted, no_tally, place_of, refused_for, tallied}
 use Rattle.feed_conversion.specs.Tallies.{with_suppliers}
 use Rattle.feed_conversion.specs.declared.refusal.Refusal.{Refusal}
@@ -41,27 +39,24 @@ pub record OpenParts : Type 0 where
   pub full : ℕ
   pub count : ℕ
   pub text : List ℕ
-  pub beyond : Option Position
+  pub beyond : Option ⊤
   pub tally : Tally
 
--- what the target has made of the parts and of the notes that it has taken, and what is told of the
--- products
-pub record Taken (P N : Type 0) : Type 0 where
+-- what the target has made of the parts that it has taken, and what is told of the products
+pub record Taken (P : Type 0) : Type 0 where
   pub parts : P
-  pub notes : N
   pub counted : Counted
 
-abbrev pub taken : {P N : Type 0} → P → N → Counted → Taken P N
-taken parts notes told = record { parts = parts; notes = notes; counted = told }
+abbrev pub taken : {P : Type 0} → P → Counted → Taken P
+taken parts told = record { parts = parts; counted = told }
 
 -- the parts of a message, with what the target has made of those that it has taken
-pub record Stored (P N : Type 0) : Type 0 where
+pub record Stored (P : Type 0) : Type 0 where
   pub begun : OpenParts
   pub parts : P
-  pub notes : N
 
-abbrev pub stored : {P N : Type 0} → OpenParts → P → N → Stored P N
-stored begun parts notes = record { begun = begun; parts = parts; notes = notes }
+abbrev pub stored : {P : Type 0} → OpenParts → P → Stored P
+stored begun parts = record { begun = begun; parts = parts }
 
 -- where a message is: before its Header, refused, or in its parts
 pub data Stage : Type 0 where
@@ -70,15 +65,14 @@ pub data Stage : Type 0 where
   within : OpenParts → Stage
 
 -- a message that is being converted, with what the target has made of what it has taken
-pub record State (P N : Type 0) : Type 0 where
+pub record State (P : Type 0) : Type 0 where
   pub options : Options
   pub parts : P
-  pub notes : N
   pub stage : Stage
 
 -- before the Header
-abbrev pub first_state : {P N : Type 0} → Options → P → N → State P N
-first_state o parts notes = record { options = o; parts = parts; notes = notes; stage = unbegun }
+abbrev pub first_state : {P : Type 0} → Options → P → State P
+first_state o parts = record { options = o; parts = parts; stage = unbegun }
 
 -- ---- parts
 
@@ -105,7 +99,7 @@ abbrev pub grown : OpenParts → ℕ → List ℕ → OpenParts
 grown b more text = record b { count = b.count + more; text = b.text ++ text }
 
 -- with so many records, of this text, of a product at this place in the next part
-abbrev pub in_next_part : ℕ → OpenParts → Position → ℕ → List ℕ → OpenParts
+abbrev pub in_next_part : ℕ → OpenParts → ⊤ → ℕ → List ℕ → OpenParts
 in_next_part most b place more text = record {
   front = b.front;
   back = b.back;
@@ -119,47 +113,46 @@ in_next_part most b place more text = record {
 }
 
 -- with a text as the part behind so many, where there are more parts
-abbrev pub with_part : {P N : Type 0} → Keeping P N → ℕ → ℕ → List ℕ → P → P
-with_part k most full text parts = if nat_lt full most then k.with_part parts text else parts
+abbrev pub with_part : {P : Type 0} → (P → List ℕ → P) → ℕ → ℕ → List ℕ → P → P
+with_part k most full text parts = if nat_lt full most then k parts text else parts
 
 -- the parts, with the one that was begun
-abbrev pub with_begun : {P N : Type 0} → Keeping P N → ℕ → Stored P N → P
+abbrev pub with_begun : {P : Type 0} → (P → List ℕ → P) → ℕ → Stored P → P
 with_begun k most h = with_part k most h.begun.full (h.begun.text ++ end_text h.begun.count) h.parts
 
 -- with a product of so many records, of this text, in the part that was begun, in the next one, or
 -- in none
-unfoldable pub kept : {P N : Type 0} → Keeping P N → ℕ → Stored P N → Position → ℕ → List ℕ
-    → Option (Stored P N)
+unfoldable pub kept : {P : Type 0} → (P → List ℕ → P) → ℕ → Stored P → ⊤ → ℕ → List ℕ
+    → Option (Stored P)
 kept k most h place more text =
     if has_room h.begun.count (length h.begun.text) more (length text)
-    then Some (stored (grown h.begun more text) h.parts h.notes)
+    then Some (stored (grown h.begun more text) h.parts)
     else if has_room 1 (length (first_text h.begun (h.begun.full + 1))) more (length text)
-    then Some (stored (in_next_part most h.begun place more text) (with_begun k most h) h.notes)
+    then Some (stored (in_next_part most h.begun place more text) (with_begun k most h))
     else None
 
 -- a call kept a product, or changed nothing
-abbrev pub IsKept : {P N : Type 0} → Bool → Stored P N → Stored P N → Option (Stored P N) → Type 0
+abbrev pub IsKept : {P : Type 0} → Bool → Stored P → Stored P → Option (Stored P) → Type 0
 IsKept true old new told = told ≡ Some new
 IsKept false old new told = (told ≡ None) × (new ≡ old)
 
 -- ---- products
 
 -- with one more product, which has these notes
-abbrev pub noted : {P N : Type 0} → Keeping P N → Composite → List Note → Stored P N → Stored P N
-noted k c notes h =
+abbrev pub noted : {P : Type 0} → Composite → List Reason → Stored P → Stored P
+noted c notes h =
     stored (record h.begun { tally = tallied h.begun.tally c notes }) h.parts
-    (fold k.with_note h.notes (product_notes (reference_in c.below) notes))
 
 -- a variant of a product, in the part that was begun, in the next one, or in none
-abbrev pub with_variant : {P N : Type 0} → Keeping P N → ℕ → Stored P N → Composite
-    → List (List (List ℕ)) → List Note → Option (Stored P N)
+abbrev pub with_variant : {P : Type 0} → (P → List ℕ → P) → ℕ → Stored P → Composite
+    → List (List (List ℕ)) → List Reason → Option (Stored P)
 with_variant k most h c records notes =
-    option_map (noted k c notes)
+    option_map (noted c notes)
     (kept k most h (place_of c) (length records) (records_text records))
 
-abbrev pub with_variants : {P N : Type 0} → Keeping P N → ℕ → Stored P N → Composite → List Variant
-    → Stored P N
-with_variants k most h c [] = noted k c (note c.element (wrong TooLarge []) ∷ []) h
+abbrev pub with_variants : {P : Type 0} → (P → List ℕ → P) → ℕ → Stored P → Composite → List Variant
+    → Stored P
+with_variants k most h c [] = noted c (wrong TooLarge [] ∷ []) h
 with_variants k most h c (v ∷ more) =
     unwrap_or (with_variant k most h c v.records v.notes) (with_variants k most h c more)
 
@@ -167,12 +160,12 @@ with_variants k most h c (v ∷ more) =
 abbrev pub seen_by : Option Pair → Nodes → OpenParts → OpenParts
 seen_by named product b = record b { tally = with_suppliers named product b.tally }
 
-unfoldable pub after_product : {P N : Type 0} → Keeping P N → Options → Stored P N → Composite
-    → Stored P N
+unfoldable pub after_product : {P : Type 0} → (P → List ℕ → P) → Options → Stored P → Composite
+    → Stored P
 after_product k o h c =
     with_variants k o.choices.parts
-    (stored (seen_by o.choices.supplier c.below h.begun) h.parts h.notes) c
-    (variants h.begun.opening (supply_choices o) c)
+    (stored (seen_by o.choices.supplier c.below h.begun) h.parts) c
+    (variants h.begun.opening (supply_choices o) c.below)
 
 -- ---- elements
 
@@ -212,20 +205,20 @@ abbrev pub stage_after_stranger : Stage → Composite → Stage
 stage_after_stranger (refused refusal) c = refused refusal
 stage_after_stranger other c = refused (why.OtherNamespace (place_of c))
 
-abbrev pub at_stage : {P N : Type 0} → State P N → Stage → State P N
+abbrev pub at_stage : {P : Type 0} → State P → Stage → State P
 at_stage s stage = record s { stage = stage }
 
-abbrev pub with_stored : {P N : Type 0} → State P N → Stored P N → State P N
+abbrev pub with_stored : {P : Type 0} → State P → Stored P → State P
 with_stored s h =
-    record { options = s.options; parts = h.parts; notes = h.notes; stage = within h.begun }
+    record { options = s.options; parts = h.parts; stage = within h.begun }
 
-abbrev pub with_product : {P N : Type 0} → Keeping P N → Stage → State P N → Composite → State P N
+abbrev pub with_product : {P : Type 0} → (P → List ℕ → P) → Stage → State P → Composite → State P
 with_product k unbegun s c = at_stage s (refused (why.NoHeader (Some (place_of c))))
 with_product k (refused refusal) s c = s
 with_product k (within b) s c =
-    with_stored s (after_product k s.options (stored b s.parts s.notes) c)
+    with_stored s (after_product k s.options (stored b s.parts) c)
 
-abbrev pub after_element : {P N : Type 0} → Keeping P N → State P N → Composite → State P N
+abbrev pub after_element : {P : Type 0} → (P → List ℕ → P) → State P → Composite → State P
 after_element k s c =
     if bytes_eq c.element.name (codes "Header")
     then at_stage s (stage_after_header s.stage s.options c)
@@ -234,7 +227,7 @@ after_element k s c =
     else s
 
 -- after the element that lines tell
-abbrev pub after_nodes : {P N : Type 0} → Keeping P N → State P N → Nodes → State P N
+abbrev pub after_nodes : {P : Type 0} → (P → List ℕ → P) → State P → Nodes → State P
 after_nodes k s no_nodes = s
 after_nodes k s (node name tag text below rest) = after_element k s (composite name tag text below)
 
@@ -247,31 +240,31 @@ empty_parts b before (suc more) =
     (first_text b before ++ end_text 1) ∷ empty_parts b (suc before) more
 
 -- the parts at the end: with the one that was begun, and those that are left over
-abbrev pub all_parts : {P N : Type 0} → Keeping P N → ℕ → Stored P N → P
+abbrev pub all_parts : {P : Type 0} → (P → List ℕ → P) → ℕ → Stored P → P
 all_parts k most h =
-    fold k.with_part (with_begun k most h)
+    fold k (with_begun k most h)
     (empty_parts h.begun (h.begun.full + 1) (most - (h.begun.full + 1)))
 
 -- what the target has made of all at the end
-abbrev pub ended_at : {P N : Type 0} → Keeping P N → ℕ → Stored P N → Option Position
-    → Result (Taken P N) Refusal
+abbrev pub ended_at : {P : Type 0} → (P → List ℕ → P) → ℕ → Stored P → Option ⊤
+    → Result (Taken P) Refusal
 ended_at k most h (Some place) = Err (why.Parts (h.begun.full + 1) place)
-ended_at k most h None = Ok (taken (all_parts k most h) h.notes (counted h.begun.tally))
+ended_at k most h None = Ok (taken (all_parts k most h) (counted h.begun.tally))
 
-abbrev pub ended_by : {P N : Type 0} → Keeping P N → ℕ → Stored P N → Option Refusal
-    → Result (Taken P N) Refusal
+abbrev pub ended_by : {P : Type 0} → (P → List ℕ → P) → ℕ → Stored P → Option Refusal
+    → Result (Taken P) Refusal
 ended_by k most h (Some refusal) = Err refusal
 ended_by k most h None = ended_at k most h h.begun.beyond
 
-abbrev pub ended : {P N : Type 0} → Keeping P N → Options → Stored P N → Result (Taken P N) Refusal
+abbrev pub ended : {P : Type 0} → (P → List ℕ → P) → Options → Stored P → Result (Taken P) Refusal
 ended k o h = ended_by k o.choices.parts h (refused_for o.wrong h.begun.tally)
 
-abbrev pub finished_at : {P N : Type 0} → Keeping P N → Stage → State P N
-    → Result (Taken P N) Refusal
+abbrev pub finished_at : {P : Type 0} → (P → List ℕ → P) → Stage → State P
+    → Result (Taken P) Refusal
 finished_at k unbegun s = Err (why.NoHeader None)
 finished_at k (refused refusal) s = Err refusal
-finished_at k (within b) s = ended k s.options (stored b s.parts s.notes)
+finished_at k (within b) s = ended k s.options (stored b s.parts)
 
 -- what has come of a message at its end
-abbrev pub finished : {P N : Type 0} → Keeping P N → State P N → Result (Taken P N) Refusal
+abbrev pub finished : {P : Type 0} → (P → List ℕ → P) → State P → Result (Taken P) Refusal
 finished k s = finished_at k s.stage s

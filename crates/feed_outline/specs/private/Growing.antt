@@ -1,7 +1,6 @@
 -- The outline of one child of the root, as it grows from token to token.
 use Rattle.std.specs.Prelude.{ℕ, zero, suc, Bool, true, false, List, [], ◌∷◌, ◌++◌, length, map}
 use Rattle.std.specs.Prelude.{Option, Some, None, fold, if◌then◌else◌, unwrap_or}
-use Rattle.feed_xml.specs.declared.position.Position.{Position}
 use Rattle.feed_xml.specs.Grammar.{is_filled, is_space}
 use Rattle.feed_outline.specs.Namespaces.{Binding, Scope, scope}
 use Rattle.feed_outline.specs.Nodes.{Tag}
@@ -102,8 +101,8 @@ is_idle g = is_idle_at g.passed g.opens
 
 -- ---- tags and their sizes
 
-abbrev pub tagged : Position → Option (List ℕ) → Tag
-tagged place format = record { place = place; format = format }
+abbrev pub tagged : Option (List ℕ) → Tag
+tagged format = record { format = format }
 
 abbrev pub format_size : Option (List ℕ) → ℕ
 format_size format = length (unwrap_or format [])

@@ -8,8 +8,7 @@ use Rattle.feed_xml.specs.declared.place.Place.{Place}
 use Rattle.feed_xml.specs.Documents.{IsNoText}
 use Rattle.feed_xml.specs.EncodingNames.{encoding_name}
 use Rattle.feed_xml.specs.Grammar.{Token}
-use Rattle.feed_xml.specs.private.Bounds.{IsDeepAt, IsGarbledBehind, IsLargeAt, IsLongAt, MeetsFrom}
-use Rattle.feed_xml.specs.private.Bounds.{NoneStandsAt, NoneWillStand}
+use Rattle.feed_xml.specs.private.Bounds.{IsDeepAt, IsLargeAt, IsLongAt, MeetsFrom, PlaceBound}
 use Rattle.feed_xml.specs.private.Places.{Completes, IsNeverComplete, first_place}
 use Rattle.feed_xml.specs.private.Windows.{BeginsAt}
 
@@ -19,39 +18,35 @@ IsUnknown head (UnknownEncoding name) = encoding_name head ≡ Some name
 IsUnknown head Memory = Unit {0}
 IsUnknown head other = ⊥
 
--- the sink took tokens of which this holds
-abbrev pub Took : {S : Type 0} → (S → Token → S) → (List Token → Type 0) → S → S → Type 0
-Took after Holds old new = (tokens : List Token) × Holds tokens × (new ≡ fold after old tokens)
-
 module _ {S : Type 0} (after : S → Token → S) (goes_on : S → Bool) where
   -- what a fault tells of a text, where that is told
   module _ (told : Option (List ℕ)) (old new : S) where
-    abbrev pub TookText : (List Token → List ℕ → Type 0) → Type 0
-    TookText Holds = Took after (λ tokens. IfSome told (Holds tokens)) old new
+    -- it begins with tokens that lead to where this holds
+    abbrev pub MeetsText : PlaceBound → Type 0
+    MeetsText Limit = (tokens : List Token) × IfSome told (MeetsFrom Limit first_place tokens)
 
     abbrev pub TellsText : Fault → Type 0
-    TellsText Malformed =
-        IfSome told IsNeverComplete × TookText (MeetsFrom NoneStandsAt first_place)
-    TellsText NotText = IfSome told IsNoText × TookText IsGarbledBehind
-    TellsText TooDeep = TookText (MeetsFrom IsDeepAt first_place)
-    TellsText TooLong = TookText (MeetsFrom IsLongAt first_place)
-    TellsText LargeTag = TookText (MeetsFrom IsLargeAt first_place)
-    TellsText Refused = (goes_on new ≡ false) × TookText (BeginsAt first_place)
+    TellsText Malformed = IfSome told IsNeverComplete
+    TellsText NotText = IfSome told IsNoText
+    TellsText TooDeep = MeetsText IsDeepAt
+    TellsText TooLong = MeetsText IsLongAt
+    TellsText LargeTag = MeetsText IsLargeAt
+    TellsText Refused =
+        (goes_on new ≡ false) × ((tokens : List Token)
+        × IfSome told (BeginsAt first_place tokens) × (new ≡ fold after old tokens))
     TellsText (UnknownEncoding name) = ⊥
     TellsText Read = Unit {0}
     TellsText Memory = Unit {0}
 
   -- the same of a window, whose tokens begin at a place
   module _ (from : Place) (window : List ℕ) (old new : S) where
-    abbrev pub TookWindow : (List Token → List ℕ → Type 0) → Type 0
-    TookWindow Holds = Took after (λ tokens. Holds tokens window) old new
-
     abbrev pub TellsWindow : Fault → Type 0
     TellsWindow Malformed =
-        ((more : List ℕ) (tokens : List Token) → ¬ (Completes from (window ++ more) tokens))
-        × TookWindow (MeetsFrom NoneWillStand from)
-    TellsWindow TooDeep = TookWindow (MeetsFrom IsDeepAt from)
-    TellsWindow LargeTag = TookWindow (MeetsFrom IsLargeAt from)
-    TellsWindow Refused = (goes_on new ≡ false) × TookWindow (BeginsAt from)
+        (more : List ℕ) (tokens : List Token) → ¬ (Completes from (window ++ more) tokens)
+    TellsWindow TooDeep = (tokens : List Token) × MeetsFrom IsDeepAt from tokens window
+    TellsWindow LargeTag = (tokens : List Token) × MeetsFrom IsLargeAt from tokens window
+    TellsWindow Refused =
+        (goes_on new ≡ false) × ((tokens : List Token)
+        × BeginsAt from tokens window × (new ≡ fold after old tokens))
     TellsWindow Memory = Unit {0}
     TellsWindow other = ⊥

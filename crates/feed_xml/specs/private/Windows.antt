@@ -1,5 +1,5 @@
 -- How far a document was read, of which a window is in memory.
-use Rattle.std.specs.Prelude.{◌≡◌, ◌≤◌, ℕ, true, List, ◌++◌, length, Option, Some, None, ⊤, Bool}
+use Rattle.std.specs.Prelude.{◌≡◌, ℕ, true, List, ◌++◌, Option, Some, None, ⊤, Bool}
 use Rattle.std.specs.Prelude.{not, ◌&&◌}
 use Rattle.std.specs.List.{flat_map, list_all}
 use Rattle.feed_xml.specs.declared.place.Place.{Place}
@@ -30,11 +30,10 @@ BeginsAt from tokens bytes =
     (rest : List ℕ) × (place : Place) × Advances bytes tokens rest from place
 
 -- A piece of text went behind the old bytes, and the next byte is at this part of a character.
--- Nothing is told where the piece is none of a text: then what went behind them is its front, to
--- the character that is none.
+-- Nothing is told where the piece is none of a text: then a front of it went behind them.
 abbrev pub Grows : List ℕ → List ℕ → Part → List ℕ → Option Part → Type 0
 Grows old new part piece (Some next) =
     (new ≡ old ++ piece) × (follow part piece ≡ Some next) × IsSmall next
 Grows old new part piece None =
-    (good bad more : List ℕ) × (piece ≡ good ++ (bad ++ more)) × (new ≡ old ++ good)
-    × (length bad ≤ 4) × (follow part (good ++ bad) ≡ None)
+    (good bad : List ℕ) × (piece ≡ good ++ bad) × (new ≡ old ++ good)
+    × (follow part piece ≡ None)

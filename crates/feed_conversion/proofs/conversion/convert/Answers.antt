@@ -13,16 +13,16 @@ words_by terms same is = λ i. vocabulary_by (option_map (λ (t : Bor Terms). t.
 
 pub returns-in-None-clause-converted : goal.returns-in-None-clause-converted
 returns-in-None-clause-converted g c =
-    (c.convert_by.ensures (options_view c.args.options.now) (g.T.Target.parts c.args.target) (g.T.Target.notes c.args.target) (words_by _ _ c.in-None.is) c.new-converter.ensures).0
+    (c.convert_by.ensures (options_view c.args.options.now) (g.T.Target.parts c.args.target) (words_by _ _ c.in-None.is) c.new-converter.ensures).0
 
 pub returns-in-None-clause-fault : goal.returns-in-None-clause-fault
 returns-in-None-clause-fault g c =
-    (c.convert_by.ensures (options_view c.args.options.now) (g.T.Target.parts c.args.target) (g.T.Target.notes c.args.target) (words_by _ _ c.in-None.is) c.new-converter.ensures).1
+    (c.convert_by.ensures (options_view c.args.options.now) (g.T.Target.parts c.args.target) (words_by _ _ c.in-None.is) c.new-converter.ensures).1
 
 pub returns-in-Some-clause-converted : goal.returns-in-Some-clause-converted
 returns-in-Some-clause-converted g c =
-    (c.convert_by-in-Some.ensures (options_view c.args.options.now) (g.T.Target.parts c.args.target) (g.T.Target.notes c.args.target) (words_by _ _ c.in-Some.is) c.new-converter.ensures).0
+    (c.convert_by-in-Some.ensures (options_view c.args.options.now) (g.T.Target.parts c.args.target) (words_by _ _ c.in-Some.is) c.new-converter.ensures).0
 
 pub returns-in-Some-clause-fault : goal.returns-in-Some-clause-fault
 returns-in-Some-clause-fault g c =
-    (c.convert_by-in-Some.ensures (options_view c.args.options.now) (g.T.Target.parts c.args.target) (g.T.Target.notes c.args.target) (words_by _ _ c.in-Some.is) c.new-converter.ensures).1
+    (c.convert_by-in-Some.ensures (options_view c.args.options.now) (g.T.Target.parts c.args.target) (words_by _ _ c.in-Some.is) c.new-converter.ensures).1

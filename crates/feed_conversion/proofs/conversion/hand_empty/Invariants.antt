@@ -4,11 +4,9 @@ use Rattle.feed_conversion.specs.private.StageViews.{begun_view}
 use Rattle.feed_conversion.proofs.conversion.hand_empty.Given as goal
 
 abbrev pub invariant-loop-before : goal.invariant-loop-before
-invariant-loop-before g l = record {
-  parts : fold g.T.Target.keeping.with_part (g.T.Target.parts l.target) (empty_parts (begun_view l.begun) l.before (l.most - l.before))
-      ≡ fold g.T.Target.keeping.with_part (g.T.Target.parts l.initial.target) (empty_parts (begun_view l.begun) l.initial.before (l.most - l.initial.before));
-  notes : g.T.Target.notes l.target ≡ g.T.Target.notes l.initial.target;
-}
+invariant-loop-before g l =
+    fold g.T.Target.with_part (g.T.Target.parts l.target) (empty_parts (begun_view l.begun) l.before (l.most - l.before))
+    ≡ fold g.T.Target.with_part (g.T.Target.parts l.initial.target) (empty_parts (begun_view l.begun) l.initial.before (l.most - l.initial.before))
 
 abbrev pub decreases-loop-before : goal.decreases-loop-before
 decreases-loop-before g l = l.most - l.before

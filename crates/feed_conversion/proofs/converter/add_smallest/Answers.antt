@@ -11,5 +11,5 @@ returns g c =
     c.in_ok-add_bare.ensures ∙ ap (λ (rs : List (List (List ℕ))). rs ++ bare_record product.below ∷ []) c.new-records.ensures in
     let kept = rw same at c.in_ok-is_kept.ensures in
     on-ok c.leave_out.result
-    (others-tried g.T.Target.keeping c.args.most c.in_ok-is_kept.is_kept _ _ _ product (bare_record product.below ∷ []) (note_views c.args.notes.now) [] c.if-is_kept.false kept)
+    (others-tried g.T.Target.with_part c.args.most c.in_ok-is_kept.is_kept _ _ _ product (bare_record product.below ∷ []) (note_views c.args.notes.now) [] c.if-is_kept.false kept)
     (c.leave_out.ensures c.args.most)

@@ -6,12 +6,12 @@ use Rattle.std.proofs.lemmas.Result.{on_ok_weaker}
 use Rattle.onix_records.specs.declared.row.Opening.{Opening}
 use Rattle.feed_outline.specs.Nodes.{Nodes}
 use Rattle.feed_terms.specs.declared.term.Term.{Term}
-use Rattle.feed_mapping.specs.Details.{context_in, price_in, priced_notes, priced_records, prices_in, supplier_id}
+use Rattle.feed_mapping.specs.Details.{context_in, priced_records, prices_in, supplier_id}
 use Rattle.feed_terms.specs.declared.table.Terms.{Terms}
-use Rattle.feed_mapping.specs.Notes.{Note, note_views}
+use Rattle.feed_mapping.specs.Notes.{note_views}
 use Rattle.feed_mapping.specs.Outcomes.{all_notes}
 use Rattle.feed_mapping.specs.Prices.{PriceContext, context_view}
-use Rattle.feed_mapping.specs.PriceTerms.{outcome_in, records_with, supplier_of, terms_notes}
+use Rattle.feed_mapping.specs.PriceTerms.{outcome_in, records_with, supplier_of}
 use Rattle.feed_mapping.specs.Records.{Records}
 use Rattle.feed_mapping.proofs.details.add_priced.Goals as goal
 
@@ -22,13 +22,6 @@ module _ (o : Opening) (nodes : Nodes) (context : PriceContext) (same : context 
       told ∙ ap (λ (x : PriceContext). old ++ records_with t s x (prices_in nodes)) same ∙ ap (λ (k : Option (List ℕ)). old ++ records_with t k (context_in o nodes) (prices_in nodes)) own
       ∙ ap (λ (k : Option (List Term)). old ++ priced_records o k preferred nodes) (sym is)
 
-  noted : (old new : List Note) → new ≡ old ++ (all_notes (outcome_in context) (prices_in nodes) ++ terms_notes t s context (prices_in nodes))
-      → new ≡ old ++ (all_notes (price_in o nodes) (prices_in nodes) ++ priced_notes o terms preferred nodes)
-  noted old new told =
-      told ∙ ap (λ (x : PriceContext). old ++ (all_notes (outcome_in x) (prices_in nodes) ++ terms_notes t s x (prices_in nodes))) same
-      ∙ ap (λ (k : Option (List ℕ)). old ++ (all_notes (price_in o nodes) (prices_in nodes) ++ terms_notes t k (context_in o nodes) (prices_in nodes))) own
-      ∙ ap (λ (k : Option (List Term)). old ++ (all_notes (price_in o nodes) (prices_in nodes) ++ priced_notes o k preferred nodes)) (sym is)
-
 pub returns-clause-records : goal.returns-clause-records
 returns-clause-records c = λ o same mine.
     let is : option_map (λ (t : Bor Terms). t.now) c.args.choices.now.terms ≡ Some c.in-Some.terms.now = ap (option_map (λ (t : Bor Terms). t.now)) c.in-Some.is in
@@ -38,9 +31,7 @@ returns-clause-records c = λ o same mine.
     c.add_computed_prices.ensures.records
 
 pub returns-clause-notes : goal.returns-clause-notes
-returns-clause-notes c = λ o same mine.
-    let is : option_map (λ (t : Bor Terms). t.now) c.args.choices.now.terms ≡ Some c.in-Some.terms.now = ap (option_map (λ (t : Bor Terms). t.now)) c.in-Some.is in
+returns-clause-notes c = λ o same.
+    let old = note_views c.args.notes.now.items in
     on_ok_weaker c.add_computed_prices.result
-    (noted o c.args.elements.now (context_view c.args.context.now) same (option_map (λ (t : Bor Terms). t.now) c.args.choices.now.terms) c.in-Some.terms.now is
-    c.args.choices.now.id_type.now (option_copied c.as_ref.result) (c.as_ref.ensures.value ∙ c.in_ok-supplier.ensures ∙ ap supplier_of mine) (note_views c.args.notes.now.items) (note_views c.add_computed_prices.new.notes.items))
-    c.add_computed_prices.ensures.notes
+    (λ told. told ∙ ap (λ (x : PriceContext). old ++ all_notes (outcome_in x) (prices_in c.args.elements.now)) same) c.add_computed_prices.ensures.notes

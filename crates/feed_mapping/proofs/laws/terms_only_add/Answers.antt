@@ -2,7 +2,6 @@ use Rattle.feed_mapping.specs.Details.{context_in, price_in, prices_in, supplier
 use Rattle.feed_mapping.specs.Outcomes.{all_records}
 use Rattle.feed_mapping.specs.PriceTerms.{all_given, closed_kinds, supplier_of}
 use Rattle.feed_mapping.proofs.GivenPriceLaws.{given-stands}
-use Rattle.feed_mapping.proofs.NoTermLaws.{none-fits}
 use Rattle.feed_mapping.proofs.laws.terms_only_add.Goals as goal
 
 pub returns-clause-added : goal.returns-clause-added
@@ -14,6 +13,3 @@ pub returns-clause-stands : goal.returns-clause-stands
 returns-clause-stands c =
     let laws = c.computed_reads_back.ensures in
     given-stands (record { writable = laws.writable; read = laws.read }) c.given_price_stands.ensures
-
-pub returns-clause-fitting : goal.returns-clause-fitting
-returns-clause-fitting c = none-fits

@@ -1,13 +1,12 @@
-use Rattle.std.proofs.Common.{◌≡◌, ◌≤◌, ◌++◌, ◌∷◌, ◌∙◌, [], List, Some, length, map, ap, sym, subst, arith}
+use Rattle.std.proofs.Common.{◌≡◌, ◌≤◌, ◌++◌, ◌∷◌, ◌∙◌, [], List, Some, length, ap, sym, subst, arith}
 use Rattle.std.specs.Prelude.{codes, if◌then◌else◌, nat_lt}
 use Rattle.std.proofs.lemmas.Bool.Decides.{nat_tests}
-use Rattle.std.proofs.lemmas.List.{append-nil, map-append}
+use Rattle.std.proofs.lemmas.List.{append-nil}
 use Rattle.onix_records.specs.declared.parts.Price.{Price}
 use Rattle.feed_terms.specs.declared.price.GivenPrice.{GivenPrice}
-use Rattle.feed_mapping.specs.Elements.{Composite, element_view}
-use Rattle.feed_mapping.specs.declared.price_terms.Place.{Place}
+use Rattle.feed_mapping.specs.Elements.{Composite}
 use Rattle.feed_mapping.specs.Prices.{context_view, written_fields}
-use Rattle.feed_mapping.specs.PriceTerms.{given_in, given_of, kinds_closed, places_view}
+use Rattle.feed_mapping.specs.PriceTerms.{given_in, given_of, kinds_closed}
 use Rattle.feed_mapping.specs.Records.{Fields}
 use Rattle.feed_mapping.proofs.ComputedRows.{long-written}
 use Rattle.feed_mapping.proofs.SeenPrices.{IsNew, new-price, unseen}
@@ -21,11 +20,6 @@ nothing-seen c =
 pub returns-then-len-count-clause-given : goal.returns-then-len-count-clause-given
 returns-then-len-count-clause-given c =
     sym (ap (λ (g : List GivenPrice). c.args.written.now.given.items ++ g) (nothing-seen c) ∙ append-nil c.args.written.now.given.items)
-
-pub returns-then-len-count-clause-places : goal.returns-then-len-count-clause-places
-returns-then-len-count-clause-places c =
-    let old = places_view c.args.written.now.places.items in
-    sym (ap (λ (g : List GivenPrice). old ++ map (λ x. c.args.price.now.element) g) (nothing-seen c) ∙ append-nil old)
 
 pub returns-then-len-count-clause-closed : goal.returns-then-len-count-clause-closed
 returns-then-len-count-clause-closed c =
@@ -66,12 +60,6 @@ given-is c =
 pub returns-clause-given : goal.returns-clause-given
 returns-clause-given c =
     c.in_ok-push.ensures.items ∙ ap (λ (g : List GivenPrice). c.args.written.now.given.items ++ g) (sym (given-is c))
-
-pub returns-clause-places : goal.returns-clause-places
-returns-clause-places c =
-    let old = places_view c.args.written.now.places.items in
-    ap places_view c.in_ok-push-2.ensures.items ∙ map-append (λ (p : Place). element_view p.line.now) c.args.written.now.places.items _
-    ∙ ap (λ (x : Composite). old ++ x.element ∷ []) c.price.view_is ∙ ap (λ (g : List GivenPrice). old ++ map (λ x. c.args.price.now.element) g) (sym (given-is c))
 
 pub returns-clause-closed : goal.returns-clause-closed
 returns-clause-closed c =

@@ -1,13 +1,10 @@
 use Rattle.std.proofs.Common.{◌≡◌, ◌++◌, length}
-use Rattle.feed_mapping.specs.Elements.{element_view}
 use Rattle.feed_mapping.specs.Notes.{note_views}
-use Rattle.feed_mapping.specs.Regions.{other_regions}
 use Rattle.feed_mapping.specs.Territories.{region_notes}
 use Rattle.feed_mapping.proofs.regions.push_regions.Given as goal
 
 abbrev pub invariant-loop-region : goal.invariant-loop-region
-invariant-loop-region l = note_views l.notes.items ++ region_notes (element_view l.line) l.kind (other_regions l.rest)
-    ≡ note_views l.initial.notes.items ++ region_notes (element_view l.line) l.kind (other_regions l.text)
+invariant-loop-region l = note_views l.notes.items ++ region_notes l.rest ≡ note_views l.initial.notes.items ++ region_notes l.text
 
 abbrev pub decreases-loop-region : goal.decreases-loop-region
 decreases-loop-region l = length l.rest

@@ -12,5 +12,5 @@ loop-detail-preserved c =
     let choices = supply_choices_view c.args.choices.now in
     let before = c.loop-detail.invariant in record {
       records = one-more (λ x. outcome_records (detail_in opening choices x)) _ _ _ _ _ _ parts c.in_ok-add_one_detail.ensures.records before.records;
-      notes = one-more (λ x. outcome_notes x.element (detail_in opening choices x)) _ _ _ _ _ _ parts c.in_ok-add_one_detail.ensures.notes before.notes;
+      notes = one-more (λ x. outcome_notes (detail_in opening choices x)) _ _ _ _ _ _ parts c.in_ok-add_one_detail.ensures.notes before.notes;
     }

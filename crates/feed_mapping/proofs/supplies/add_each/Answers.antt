@@ -17,6 +17,6 @@ loop-supply-preserved c =
     let before = c.loop-supply.invariant in
     let lost = c.former-lost.ensures ∙ ap (option_or (reason_read c.loop-supply.lost)) (c.lost_by.ensures ∙ ap (λ (kind : Option Reason). option_filter (λ r. is_lost r.kind) kind) c.in_ok-left_out.ensures.reason) in record {
       records = one-more (λ x. outcome_records (supply_in opening choices x)) _ _ _ _ _ _ parts c.in_ok-left_out.ensures.records before.records;
-      notes = one-more (λ x. outcome_notes x.element (supply_in opening choices x)) _ _ _ _ _ _ parts c.in_ok-left_out.ensures.notes before.notes;
+      notes = one-more (λ x. outcome_notes (supply_in opening choices x)) _ _ _ _ _ _ parts c.in_ok-left_out.ensures.notes before.notes;
       lost = first-more (λ x. option_filter (λ r. is_lost r.kind) (outcome_reason (supply_in opening choices x))) (reason_read c.loop-supply.lost) _ _ _ _ _ parts lost before.lost;
     }

@@ -1,8 +1,10 @@
-use Rattle.std.proofs.Common.{◌≡◌, ◌∙◌, true, false, ap, fold, sym}
+use Rattle.std.proofs.Common.{◌∙◌, ap, fold, subst, sym}
+use Rattle.feed_xml.specs.declared.fault.Fault.{Fault as DocumentFault}
+use Rattle.feed_xml.specs.declared.fault.Fault.TheVariants.{Refused}
+use Rattle.feed_xml.specs.Faults.{Tells}
 use Rattle.feed_outline.specs.private.Feed.{feed, takes_more}
-use Rattle.feed_outline.specs.private.Finishing.{finished, is_of_text}
-use Rattle.feed_outline.proofs.MessageLaws.{comes, document_explained, refuses, taken_behind}
-use Rattle.feed_outline.proofs.message_reading.read_message.Goals.{else-is_of_text-via-then-is_of_text+else-not-takes_more, else-is_of_text-via-else-is_of_text}
+use Rattle.feed_outline.specs.private.Finishing.{finished}
+use Rattle.feed_outline.proofs.MessageLaws.{comes, document_explained, refuses}
 use Rattle.feed_outline.proofs.message_reading.read_message.Goals as goal
 
 pub returns-in-Ok-clause-message : goal.returns-in-Ok-clause-message
@@ -23,26 +25,18 @@ returns-in-Ok-clause-refused g c =
     rw (c.finish.ensures ∙ ap finished (d.4 ∙ ap (λ f. fold (feed g.T.Taker.vocabulary after) f d.1) c.new-outliner.ensures))
     all.refused
 
-pub returns-then-not-takes_more-clause-refused : goal.returns-then-not-takes_more-clause-refused
-returns-then-not-takes_more-clause-refused g c =
+pub returns-then-is_refused-clause-refused : goal.returns-then-is_refused-clause-refused
+returns-then-is_refused-clause-refused g c =
+    let vocabulary = g.T.Taker.vocabulary in
     let after = g.T.Taker.after in
     let bytes = g.R.Read.remaining c.args.reader.now in
-    let w = taken_behind (feed g.T.Taker.vocabulary after) bytes c.new-outliner.result c.read_document.new.sink takes_more c.in-Err.fault (sym c.is_of_text.ensures ∙ c.if-is_of_text.true) c.in-Err.ensures.fault in
-    let is = w.2 ∙ ap (λ f. fold (feed g.T.Taker.vocabulary after) f w.0) c.new-outliner.ensures in
-    let last : takes_more c.read_document.new.sink ≡ false = sym c.takes_more.ensures ∙ c.if-not-takes_more.true in
-    let all = refuses g.T.Taker.vocabulary after c.args.taker bytes w.0 w.1 (ap takes_more (sym is) ∙ last) in
-    rw (c.finish-then-not-takes_more.ensures ∙ ap finished is)
-    all.refused
+    let t : Tells (feed vocabulary after) bytes c.new-outliner.result c.read_document.new.sink takes_more Refused =
+    subst (λ (e : DocumentFault). Tells (feed vocabulary after) bytes c.new-outliner.result c.read_document.new.sink takes_more e) (c.is_refused.ensures.yes c.if-is_refused.true) c.in-Err.ensures.fault in
+    let tokens = t.1.0 in
+    let is = t.1.2 ∙ ap (λ f. fold (feed vocabulary after) f tokens) c.new-outliner.ensures in
+    rw (c.finish-then-is_refused.ensures ∙ ap finished is) (refuses vocabulary after c.args.taker bytes tokens t.1.1 (ap takes_more (sym is) ∙ t.0)).refused
 
-pub returns-else-is_of_text-clause-refused : goal.returns-else-is_of_text-clause-refused
-returns-else-is_of_text-clause-refused g c =
-    let sink = c.read_document.new.sink in
-    let bytes = g.R.Read.remaining c.args.reader.now in
-    let after = g.T.Taker.after in
-    let takes : is_of_text c.in-Err.fault ≡ true → takes_more sink ≡ true = λ e.
-    elim c.else-is_of_text.branch [
-      | else-is_of_text-via-then-is_of_text+else-not-takes_more w ↦ sym w.takes_more.ensures ∙ w.if-not-takes_more.false
-      | else-is_of_text-via-else-is_of_text w ↦ absurd (cc (sym e ∙ sym c.is_of_text.ensures ∙ w.if-is_of_text.false))
-    ] in
-    rw (c.stop.ensures, c.place-place.ensures)
-    (document_explained g.T.Taker.vocabulary after bytes c.args.taker c.new-outliner.result sink c.in-Err.fault c.new-outliner.ensures takes c.in-Err.ensures.fault)
+pub returns-else-is_refused-clause-refused : goal.returns-else-is_refused-clause-refused
+returns-else-is_refused-clause-refused g c =
+    rw c.stop.ensures
+    (document_explained g.T.Taker.vocabulary g.T.Taker.after (g.R.Read.remaining c.args.reader.now) c.new-outliner.result c.read_document.new.sink c.in-Err.fault (c.is_refused.ensures.no c.if-is_refused.false) c.in-Err.ensures.fault)

@@ -11,9 +11,8 @@ use Rattle.feed_xml.specs.private.Decoders.{decoded_rest, text_left}
 use Rattle.feed_xml.proofs.DocumentLaws.{a_none, ok_then}
 use Rattle.feed_xml.proofs.EncodingLaws.{begun}
 use Rattle.feed_xml.proofs.FaultLaws.{by_reading, end_tells, window_tells}
-use Rattle.feed_xml.proofs.GarbledLaws.{ends_broken, is_broken}
 use Rattle.feed_xml.proofs.LimitLaws.{long_window}
-use Rattle.feed_xml.proofs.ReadingLaws.{State, at_first, reads_on, small_part, hands_on, is_garbled, too_long, reads_on_at, ends_whole, ends_cut, ends_half, ends_stuck}
+use Rattle.feed_xml.proofs.ReadingLaws.{State, at_first, reads_on, small_part, hands_on, is_garbled, too_long, reads_on_at, ends_whole, ends_cut, ends_half}
 use Rattle.feed_xml.proofs.document_reading.read_encoded.Given.{Over}
 use Rattle.feed_xml.proofs.document_reading.read_encoded.Goals.{In_ok-drop_front}
 use Rattle.feed_xml.proofs.document_reading.read_encoded.Goals as goal
@@ -89,16 +88,14 @@ module _ (g : Over) (c : In_ok-drop_front g) where
 
 pub returns-in_default-clause-fault : goal.returns-in_default-clause-fault
 returns-in_default-clause-fault g c =
-    let s = (goal.at.returns-in_default-clause-fault g c).In_ok-drop_front in (
-      is_garbled (told g s) (left g s) (window g s) (tokens g s) c.drain.new.place c.loop.part c.in_default.is (state g s),
-      (tokens g s, is_broken (told g s) (left g s) (window g s) (tokens g s) c.drain.new.place c.loop.part c.in_default.is (state g s) (none_left g s), sunk g s),
-    )
+    let s = (goal.at.returns-in_default-clause-fault g c).In_ok-drop_front in
+    is_garbled (told g s) (left g s) (window g s) (tokens g s) c.drain.new.place c.loop.part c.in_default.is (state g s)
 
 pub returns-then-len-gt-MOST_WAITING-clause-fault : goal.returns-then-len-gt-MOST_WAITING-clause-fault
 returns-then-len-gt-MOST_WAITING-clause-fault g c =
     let s = (goal.at.returns-then-len-gt-MOST_WAITING-clause-fault g c).In_ok-drop_front in
     let is_long = long_window c.drain.new.place (window g s) (omega (arith, c.if-len-gt-MOST_WAITING.true, c.len.ensures, c.drop_front.new.bytes.ok.0)) (none_left g s) in
-    (tokens g s, too_long (told g s) (left g s) (window g s) (tokens g s) c.drain.new.place c.loop.part (state g s) is_long, sunk g s)
+    (tokens g s, too_long (told g s) (left g s) (window g s) (tokens g s) c.drain.new.place c.loop.part (state g s) is_long)
 
 pub returns-in-Some-next-clause-document : goal.returns-in-Some-next-clause-document
 returns-in-Some-next-clause-document g c =
@@ -121,14 +118,10 @@ returns-in-Some-next-clause-fault g c =
     let added = r.3 c.if-not-more.true in
     let e = c.end_of.ensures in
     end_tells _ c.end_of.result e.fault e.malformed e.garbled
-    (λ cut. (
-      ends_cut (told g s) (left g s) later (window g s) after c.deref-in-Some-next.result.now (tokens g s) place c.loop.part c.in-Some.at r.0 next c.in-Some-next.last (state g s) c.in-Some.is r.2 r.1 c.in-Some-next.is at_end c.deref-in-Some-next.ensures.value added (none_left g s) cut,
-      (tokens g s, ends_stuck (told g s) (left g s) later (window g s) after (tokens g s) place c.loop.part c.in-Some.at r.0 next c.in-Some-next.last (state g s) c.in-Some.is r.2 r.1 c.in-Some-next.is at_end added (none_left g s), sunk g s),
-    ))
-    (λ half. (
-      ends_half (told g s) (left g s) later (window g s) after (tokens g s) place c.loop.part c.in-Some.at r.0 next c.in-Some-next.last (state g s) c.in-Some.is r.2 r.1 c.in-Some-next.is at_end added half,
-      (tokens g s, ends_broken (told g s) (left g s) later (window g s) after (tokens g s) place c.loop.part c.in-Some.at r.0 next c.in-Some-next.last (state g s) c.in-Some.is r.2 r.1 c.in-Some-next.is at_end added half (none_left g s), sunk g s),
-    ))
+    (λ cut.
+    ends_cut (told g s) (left g s) later (window g s) after c.deref-in-Some-next.result.now (tokens g s) place c.loop.part c.in-Some.at r.0 next c.in-Some-next.last (state g s) c.in-Some.is r.2 r.1 c.in-Some-next.is at_end c.deref-in-Some-next.ensures.value added (none_left g s) cut)
+    (λ half.
+    ends_half (told g s) (left g s) later (window g s) after (tokens g s) place c.loop.part c.in-Some.at r.0 next c.in-Some-next.last (state g s) c.in-Some.is r.2 r.1 c.in-Some-next.is at_end added half)
 
 pub loop-preserved : goal.loop-preserved
 loop-preserved g c =

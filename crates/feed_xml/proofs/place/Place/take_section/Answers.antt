@@ -3,10 +3,12 @@ use Rattle.feed_xml.proofs.PlaceLaws.{stretch_elsewhere, stretch_ok, stretch_out
 use Rattle.feed_xml.proofs.place.Place.take_section.Goals as goal
 
 pub returns-then-is_outside-clause-malformed : goal.returns-then-is_outside-clause-malformed
-returns-then-is_outside-clause-malformed c = λ b. stretch_outside c.args.self.now b (sym c.is_outside.ensures ∙ c.if-is_outside.true)
+returns-then-is_outside-clause-malformed c =
+    stretch_outside c.args.self.now c.args.run.now c.if-run-eq0.false (sym c.is_outside.ensures ∙ c.if-is_outside.true)
 
 pub returns-then-not-is_in_stretch-clause-malformed : goal.returns-then-not-is_in_stretch-clause-malformed
-returns-then-not-is_in_stretch-clause-malformed c = λ b. stretch_elsewhere c.args.self.now b (c.is_in_stretch.ensures.refused c.if-not-is_in_stretch.true b)
+returns-then-not-is_in_stretch-clause-malformed c =
+    stretch_elsewhere c.args.self.now c.args.run.now c.if-run-eq0.false (c.is_in_stretch.ensures.refused c.if-not-is_in_stretch.true)
 
 pub returns-clause-ok : goal.returns-clause-ok
 returns-clause-ok c =

@@ -57,31 +57,19 @@ pub(crate) fn rule(kind: Kind) -> (&'static str, &'static str) {
     }
 }
 
-// How many digits a text has.
-fn count_digits(text: &str) -> usize {
-    text.bytes().filter(|byte| byte.is_ascii_digit()).count()
-}
-
-// Whether a text has ten digits, or nine and an X.
-fn has_ten_digits(text: &str) -> bool {
-    let nine = text.strip_suffix(['X', 'x']);
-    nine.is_some_and(|front| count_digits(front) == 9) || count_digits(text) == 10
-}
-
 /// What is usual for a field of that kind, and what to do, where the text shows it; else nothing.
 pub(crate) fn hint(kind: Kind, text: &str) -> &'static str {
-    let digits = count_digits(text);
+    let digits = text.bytes().filter(|byte| byte.is_ascii_digit()).count();
     match kind {
         Kind::Isbn if digits == 13 => "; leave out hyphens and spaces",
-        Kind::Isbn if has_ten_digits(text) => {
+        Kind::Isbn if digits == 10 || digits == 9 && text.ends_with(['X', 'x']) => {
             "; this looks like an ISBN of ten digits; write that of thirteen"
         }
         Kind::Day if digits == 8 && text.len() > 8 => {
             "; leave out what is between the digits, and put the year first"
         }
-        Kind::Country | Kind::Currency | Kind::Countries if has_small(text) => {
-            "; write capital letters"
-        }
+        Kind::Country | Kind::Currency | Kind::Countries
+            if text.bytes().any(|byte| byte.is_ascii_lowercase()) => { "; write capital letters" }
         Kind::Countries if text.contains([',', ';']) => "; put spaces between them",
         Kind::Code | Kind::Type if text == "GLN" => "; the code of a GLN is 06",
         Kind::Code | Kind::Type if digits == 1 && text.len() == 1 => {
@@ -97,9 +85,4 @@ pub(crate) fn hint(kind: Kind, text: &str) -> &'static str {
         }
         _ => "",
     }
-}
-
-// Whether a text has a small letter.
-fn has_small(text: &str) -> bool {
-    text.bytes().any(|byte| byte.is_ascii_lowercase())
 }

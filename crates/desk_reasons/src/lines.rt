@@ -1,18 +1,8 @@
 //! The lines of a text on which its records begin.
 
-use memchr::{memchr, memchr2};
+ghost use Rattle.std.specs.Prelude.{◌≡◌, IfNone, IfSome};
 
-// Whether a byte stands between quotation marks, and whether a mark in its place would open them:
-// at the beginning of a field, and behind the mark that closes them, where it is doubled. The same
-// behind a byte that ends no record.
-fn next_place(place: (bool, bool), byte: u8) -> (bool, bool) {
-    let (is_quoted, may_open) = place;
-    match byte {
-        b'"' if is_quoted => (false, true),
-        b'"' => (may_open, false),
-        _ => (is_quoted, byte == b','),
-    }
-}
+use memchr::{memchr, memchr2};
 
 /// The line on which each record of a text begins, counted from 1, one after the other.
 #[derive(Drop)]
@@ -20,24 +10,21 @@ pub(crate) struct RecordLines<'a> {
     text: &'a [u8],
     line: u64,
     at: usize,
-    // How many records are passed over before the next.
-    passed: usize,
+    /// How many records are passed over before the next.
+    pub(crate) passed: usize,
 }
 
 impl<'a> RecordLines<'a> {
     /// Those of this text. A byte order mark at its front is on the first line.
-    pub(crate) fn new(text: &'a [u8]) -> RecordLines<'a> {
+    pub(crate) fn new(text: &'a [u8]) -> RecordLines<'a>
+        ensures { (result.text.now ≡ text.now) × (result.line ≡ 1) × (result.at ≡ 0) × (result.passed ≡ 0) }
+    {
         RecordLines {
             text,
             line: 1,
             at: 0,
             passed: 0,
         }
-    }
-
-    /// Passes over so many records.
-    pub(crate) fn pass(&mut self, count: usize) {
-        self.passed = self.passed.saturating_add(count);
     }
 
     /// The line of the record at this row of the next records, counted from 1, of which there are so
@@ -55,7 +42,10 @@ impl<'a> RecordLines<'a> {
 
     // The line of the next record where it is one line without quotation marks, as most are: such
     // lines are passed over by many bytes at once.
-    fn plain_line(&mut self) -> Option<u64> {
+    fn plain_line(&mut self) -> Option<u64>
+        ensures some { IfSome result (λ line. line ≡ self.old.line) }
+        ensures none { IfNone result (self.new ≡ self.old) }
+    {
         let rest = self.text.get(self.at..)?;
         let end = memchr(b'\n', rest)?;
         let record = rest.get(..end)?;
@@ -74,25 +64,30 @@ impl<'a> RecordLines<'a> {
             return line;
         }
         let rest = self.text.get(self.at..).unwrap_or(&[]);
+        // Whether a byte stands between quotation marks, and whether a mark in its place would open
+        // them: at the beginning of a field, and behind the mark that closes them.
         let mut place = (false, true);
         let mut has_begun = false;
         let mut begun = self.line;
         for byte in rest {
             self.at = self.at.saturating_add(1);
             let ends_line = *byte == b'\n';
-            let ends_record = ends_line || *byte == b'\r';
             if ends_line {
                 self.line = self.line.saturating_add(1);
             }
-            if ends_record && !place.0 {
+            if !place.0 && (ends_line || *byte == b'\r') {
                 if has_begun {
                     return begun;
                 }
                 begun = self.line;
-            } else {
-                has_begun = true;
-                place = next_place(place, *byte);
+                continue;
             }
+            has_begun = true;
+            place = match (*byte, place) {
+                (b'"', (true, _)) => (false, true),
+                (b'"', (false, may_open)) => (may_open, false),
+                (byte, (is_quoted, _)) => (is_quoted, byte == b','),
+            };
         }
         begun
     }

@@ -1,129 +1,139 @@
 //! The records of requests and of messages: the names of their fields, and what each has to be.
 
+ghost use Rattle.std.specs.Prelude.{◌≡◌, ◌+◌, ◌-◌, ◌%◌, ◌<◌, ◌≤◌, None, length, slice_get};
+
 use crate::fields::{Field, Kind};
 
-/// What records of a name have behind it: fields in order, of which the first so many have to be
-/// there.
-#[derive(Clone, Copy)]
+/// What records of a name have behind it.
 pub(crate) struct Form {
     pub(crate) name: &'static str,
-    pub(crate) least: usize,
+    /// How many fields, and their names, in brackets one that may be left out.
+    pub(crate) text: &'static str,
     pub(crate) fields: &'static [Field],
 }
 
-// A form: its name, how many fields have to be there, and the fields, each by its name and what it
-// has to be.
+// A form: its name, how many fields, and each by its name and what it has to be; the one behind a
+// semicolon may be left out.
 macro_rules! form {
-    ($form:literal $least:literal, $($name:literal: $kind:ident),* $(,)?) => {
+    ($form:literal $count:literal $(, $name:literal: $kind:ident)* $(; $last:literal: $other:ident)?) => {
         Form {
             name: $form,
-            least: $least,
-            fields: &[$(Field { name: $name, kind: Kind::$kind }),*],
+            text: concat!($count, ": ", $form $(, ",", $name)* $(, "[,", $last, "]")?),
+            fields: &[
+                $(Field { name: $name, kind: Kind::$kind },)*
+                $(Field { name: $last, kind: Kind::$other },)?
+            ],
         }
     };
 }
 
-// The forms of all records.
-static FORMS: [Form; 13] = [
+/// The forms of what begins a request.
+pub(crate) static REQUESTS: [Form; 8] = [
     form! {
-        "Agree" 6, "Series": Series, "SenderIDType": Code, "SenderIDValue": Filled,
-        "AddresseeIDType": Type, "AddresseeIDValue": Value, "FirstNumber": FirstNumber,
+        "Agree" "6", "Series": Series, "SenderIDType": Code, "SenderIDValue": Filled,
+        "AddresseeIDType": Type, "AddresseeIDValue": Value, "FirstNumber": FirstNumber
     },
-    form! { "Waive" 2, "Series": Series, "Number": Number },
+    form! { "Waive" "2", "Series": Series, "Number": Number },
     form! {
-        "AskPrice" 5, "Article": Isbn, "Day": Day, "Country": Country, "Currency": Currency,
-        "PriceType": Code, "Quantity": Quantity,
-    },
-    form! {
-        "AskChoice" 5, "Article": Isbn, "Day": Day, "Country": Country, "Currency": Currency,
-        "PriceType": Code, "Quantity": Quantity,
+        "AskPrice" "5 or 6", "Article": Isbn, "Day": Day, "Country": Country, "Currency": Currency,
+        "PriceType": Code; "Quantity": Quantity
     },
     form! {
-        "AskCalendar" 6, "Article": Isbn, "FirstDay": Day, "LastDay": Day, "Country": Country,
-        "Currency": Currency, "PriceType": Code, "Quantity": Quantity,
+        "AskChoice" "5 or 6", "Article": Isbn, "Day": Day, "Country": Country,
+        "Currency": Currency, "PriceType": Code; "Quantity": Quantity
     },
-    form! { "AskGaps" 1, "Series": Series },
-    form! { "AskCatalogue" 1, "Series": Series },
     form! {
-        "Message" 10, "Form": Form, "SenderIDType": Code, "SenderIDValue": Filled,
+        "AskCalendar" "6 or 7", "Article": Isbn, "FirstDay": Day, "LastDay": Day,
+        "Country": Country, "Currency": Currency, "PriceType": Code; "Quantity": Quantity
+    },
+    form! { "AskGaps" "1", "Series": Series },
+    form! { "AskCatalogue" "1", "Series": Series },
+    form! {
+        "Message" "10", "Form": Form, "SenderIDType": Code, "SenderIDValue": Filled,
         "AddresseeIDType": Type, "AddresseeIDValue": Value, "MessageNumber": Number,
         "MessageRepeat": Digits, "SentDateTime": Anything, "DefaultPriceType": Code,
-        "DefaultCurrencyCode": Currency,
+        "DefaultCurrencyCode": Currency
     },
-    form! {
-        "Product" 4, "RecordReference": Filled, "NotificationType": Code, "ProductIDType": Code,
-        "IDValue": Filled,
-    },
-    form! {
-        "ProductSupply" 3, "CountriesIncluded": Countries, "RegionsIncluded": World,
-        "CountriesExcluded": Countries,
-    },
-    form! {
-        "SupplyDetail" 6, "SupplierRole": Code, "SupplierIDType": Type, "SupplierIDValue": Value,
-        "SupplierName": SupplierName, "ProductAvailability": Code, "UnpricedItemType": Code,
-    },
-    form! {
-        "Price" 8, "PriceType": Code, "PriceAmount": Amount, "CurrencyCode": Currency,
-        "CountriesIncluded": Countries, "RegionsIncluded": World, "CountriesExcluded": Countries,
-        "From": Day, "Until": Day, "MinimumOrderQuantity": Quantity,
-    },
-    form! { "EndMessage" 1, "Count": Digits },
 ];
 
-/// The form of the records of a name; none where no record has it.
-pub(crate) fn form_of(name: &str) -> Option<Form> {
-    FORMS.iter().copied().find(|form| form.name == name)
+/// A record behind the Message of a message: its form, records that lead to it, and behind what it
+/// has to stand, empty where that is all but a ProductSupply.
+pub(crate) struct Part {
+    pub(crate) form: Form,
+    pub(crate) leading: &'static str,
+    pub(crate) behind: &'static str,
 }
 
-/// The name of the records that is written so but for the case of letters and spaces.
-pub(crate) fn alike(name: &str) -> Option<&'static str> {
-    FORMS
-        .iter()
-        .map(|form| form.name)
-        .find(|known| known.eq_ignore_ascii_case(name.trim()))
-}
+pub(crate) static PARTS: [Part; 5] = [
+    Part {
+        form: form! {
+            "Product" "4 or more", "RecordReference": Filled, "NotificationType": Code,
+            "ProductIDType": Code, "IDValue": Filled
+        },
+        leading: "",
+        behind: "",
+    },
+    Part {
+        form: form! {
+            "ProductSupply" "3", "CountriesIncluded": Countries, "RegionsIncluded": World,
+            "CountriesExcluded": Countries
+        },
+        leading: "Product,a,03,15,9781234567897",
+        behind: "it has to follow a Product, a SupplyDetail or a Price",
+    },
+    Part {
+        form: form! {
+            "SupplyDetail" "6", "SupplierRole": Code, "SupplierIDType": Type,
+            "SupplierIDValue": Value, "SupplierName": SupplierName, "ProductAvailability": Code,
+            "UnpricedItemType": Code
+        },
+        leading: "Product,a,03,15,9781234567897\nProductSupply,,,",
+        behind: "it has to follow a ProductSupply, a SupplyDetail or a Price",
+    },
+    Part {
+        form: form! {
+            "Price" "8, or 9 in form 2", "PriceType": Code, "PriceAmount": Amount,
+            "CurrencyCode": Currency, "CountriesIncluded": Countries, "RegionsIncluded": World,
+            "CountriesExcluded": Countries, "From": Day, "Until": Day;
+            "MinimumOrderQuantity": Quantity
+        },
+        leading: "Product,a,03,15,9781234567897\nProductSupply,,,\nSupplyDetail,04,,,a,21,",
+        behind: "it has to follow a SupplyDetail or a Price",
+    },
+    Part {
+        form: form! { "EndMessage" "1", "Count": Digits },
+        leading: "",
+        behind: "",
+    },
+];
+
+/// The forms of questions over HTTP, about a price and about a calendar, by the names of their keys.
+pub(crate) static QUESTIONS: [Form; 2] = [
+    form! {
+        "AskPrice" "5 or 6", "the article": Isbn, "day": Day, "country": Country,
+        "currency": Currency, "type": Code; "quantity": Quantity
+    },
+    form! {
+        "AskCalendar" "6 or 7", "the article": Isbn, "from": Day, "to": Day, "country": Country,
+        "currency": Currency, "type": Code; "quantity": Quantity
+    },
+];
 
 impl Form {
-    /// Whether it may have the last two of its fields again and again.
-    pub(crate) fn repeats(&self) -> bool {
-        self.name == "Product"
-    }
-
-    /// The same in a message of this form.
-    pub(crate) fn in_form(self, form: &str) -> Form {
-        match self.fields.get(..self.least) {
-            Some(fields) if self.name == "Price" && form != "2" => Form { fields, ..self },
-            _ => self,
-        }
-    }
-
-    /// The field at a place, which is 0 for the name.
-    pub(crate) fn field(&self, place: usize) -> Option<Field> {
+    /// The field at a place, which is 0 for the name. The last two of a Product come again and again.
+    pub(crate) fn field(&self, place: usize) -> Option<Field>
+        ensures none { place ≡ 0 → result ≡ None }
+        ensures own { 0 < place → place ≤ length self.now.fields.now
+            → result ≡ slice_get self.now.fields.now (place - 1) }
+        ensures again { length self.now.fields.now < place
+            → result ≡ slice_get self.now.fields.now (2 + (place - 1) % 2) }
+    {
         let place = place.checked_sub(1)?;
-        let is_again = place >= self.fields.len();
-        let at = if is_again { 2 + place % 2 } else { place };
+        let at = if place < self.fields.len() {
+            place
+        } else {
+            2 + place % 2
+        };
         self.fields.get(at).copied()
-    }
-}
-
-/// Whether a record of this name is one of a message.
-pub(crate) fn is_of_message(name: &str) -> bool {
-    matches!(
-        name,
-        "Message" | "Product" | "ProductSupply" | "SupplyDetail" | "Price" | "EndMessage"
-    )
-}
-
-/// What a field of a question is called over HTTP.
-pub(crate) fn key_of(name: &str) -> &'static str {
-    match name {
-        "Article" => "the article",
-        "Day" => "day",
-        "FirstDay" => "from",
-        "LastDay" => "to",
-        "Country" => "country",
-        "Currency" => "currency",
-        "PriceType" => "type",
-        _ => "quantity",
     }
 }

@@ -1,6 +1,6 @@
 //! What can go wrong while the program runs, and the line that says so.
 
-ghost use Rattle.std.specs.Prelude.{◌≡◌};
+ghost use Rattle.std.specs.Prelude.{◌≡◌, [], codes, if◌then◌else◌};
 
 use csv_records::reading::RecordFault;
 use onix_records::StoreFault;
@@ -78,26 +78,23 @@ pub fn report_why<E: Write>(name: &str, why: &str, errors: &mut E) {
     let _ = write!(errors, "onixdesk: {name}: {why}\n");
 }
 
-// What to do about what the system says of a file, as far as that is plain.
-fn cure_of(why: &str) -> &'static str {
-    match why {
-        "No such file or directory" => "; correct the name",
-        "Is a directory" => "; write the name of a file in it",
-        _ => "",
-    }
-}
-
 /// Writes the line of a file that cannot be read, and where the system says why, a second with that
 /// and what to do. As with `report`, they may be lost.
 pub fn report_file<E: Write>(name: &str, why: &str, errors: &mut E) {
     let _ = write!(errors, "onixdesk: file: {name}\n");
     if !why.is_empty() {
-        let cure = cure_of(why);
+        let cure = match why {
+            "No such file or directory" => "; correct the name",
+            "Is a directory" => "; write the name of a file in it",
+            _ => "",
+        };
         let _ = write!(errors, "onixdesk: {name}: {why}{cure}\n");
     }
 }
 
 /// What is said of a name whose file was opened and cannot be read, by whether it is a folder's.
-pub fn why_unread(is_folder: bool) -> &'static str {
+pub fn why_unread(is_folder: bool) -> &'static str
+    ensures { result.now ≡ (if is_folder then codes "Is a directory" else []) }
+{
     if is_folder { "Is a directory" } else { "" }
 }

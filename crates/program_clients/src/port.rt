@@ -23,15 +23,6 @@ pub struct Port<'a> {
     pub(crate) listener: TcpListener,
 }
 
-// Why a port cannot be listened at, by an error of the system.
-fn why_unbound(error: &io::Error) -> Option<&'static str> {
-    match error.kind() {
-        ErrorKind::AddrInUse => Some("in use: another program listens at it"),
-        ErrorKind::PermissionDenied => Some("permission denied"),
-        _ => None,
-    }
-}
-
 /// A client was gone before its connection was accepted.
 pub(crate) fn is_lost(error: &io::Error) -> bool {
     matches!(
@@ -52,7 +43,11 @@ impl<'a> Port<'a> {
             }),
             Err(error) => Err(CausedFault {
                 fault: Fault::Port(number),
-                why: why_unbound(&error),
+                why: match error.kind() {
+                    ErrorKind::AddrInUse => Some("in use: another program listens at it"),
+                    ErrorKind::PermissionDenied => Some("permission denied"),
+                    _ => None,
+                },
             }),
         }
     }

@@ -1,6 +1,7 @@
 //! Why a file is not read, or a text has no records.
 
-ghost use Rattle.std.specs.Prelude.{◌≡◌};
+ghost use Rattle.std.specs.Prelude.{◌≡◌, ◌+◌, ◌==◌, ℕ, IsUtf8, MatchOption, Some, count_by, slice_get, take};
+ghost use Rattle.std.specs.Str.{IsValidUpTo};
 
 use crate::streams::Errors;
 use program_clients::fault::{Fault, report, report_file, why_unread};
@@ -31,50 +32,21 @@ pub struct WrongByte {
     line: u64,
 }
 
-// The line on which a text goes on behind these bytes.
-fn line_behind(bytes: &[u8]) -> u64 {
-    let mut line = 1u64;
-    for byte in bytes {
-        if *byte == b'\n' {
-            line = line.saturating_add(1);
-        }
-    }
-    line
-}
-
 /// The first byte of a text that is not UTF-8.
-pub(crate) fn wrong_byte(text: &[u8]) -> Option<WrongByte> {
+pub(crate) fn wrong_byte(text: &[u8]) -> Option<WrongByte>
+    ensures { MatchOption result (IsUtf8 text.now) (λ wrong. (place : ℕ)
+        × IsValidUpTo text.now place × (slice_get text.now place ≡ Some wrong.byte)
+        × (wrong.line ≡ count_by (λ b. b == 10) (take place text.now) + 1)) }
+{
     let place = match std::str::from_utf8(text) {
         Ok(_) => return None,
         Err(error) => error.valid_up_to(),
     };
-    let byte = *text.get(place)?;
-    let line = line_behind(text.get(..place).unwrap_or(text));
-    Some(WrongByte { byte, line })
-}
-
-// What separates the name of a file from what is said of it; nothing where there is none.
-fn mark_behind(name: &str) -> &'static str {
-    if name.is_empty() { "" } else { ": " }
-}
-
-// Writes which byte of the text of this name is not UTF-8.
-fn tell_wrong<E: Write>(wrong: WrongByte, name: &str, errors: &mut E) {
-    let mark = mark_behind(name);
-    let WrongByte { byte, line } = wrong;
-    let _ = write!(
-        errors,
-        "onixdesk: {name}{mark}line {line}: byte {byte:02X} is not UTF-8; save the text as UTF-8, or write: iconv -f WINDOWS-1252 -t UTF-8 FILE\n"
-    );
-}
-
-// Writes how long the text of this name may be.
-fn tell_limit<E: Write>(name: &str, errors: &mut E) {
-    let mark = mark_behind(name);
-    let _ = write!(
-        errors,
-        "onixdesk: {name}{mark}more than 4,194,304 bytes; cut a batch between two requests, and convert a feed into more parts (onixdesk convert --parts P)\n"
-    );
+    let ends = text[..place].iter().filter(|byte| **byte == b'\n').count();
+    Some(WrongByte {
+        byte: text[place],
+        line: ends as u64 + 1,
+    })
 }
 
 /// Reports a fault of the input or of the text of this name, which may be empty, and in a second
@@ -83,16 +55,18 @@ pub(crate) fn report_input<E: Write>(fault: &Fault, name: &str, errors: &mut Err
     ensures { result ≡ 3 }
 {
     let status = report(fault, &mut errors.writer);
-    let wrong = errors.wrong;
+    let mark = if name.is_empty() { "" } else { ": " };
     let writer = &mut errors.writer;
-    match fault {
-        Fault::InputNotUtf8 => {
-            if let Some(wrong) = wrong {
-                tell_wrong(wrong, name, writer);
-            }
-        }
-        Fault::InputTooLarge => tell_limit(name, writer),
-        _ => {}
-    }
+    let _ = match (fault, errors.wrong) {
+        (Fault::InputNotUtf8, Some(WrongByte { byte, line })) => write!(
+            writer,
+            "onixdesk: {name}{mark}line {line}: byte {byte:02X} is not UTF-8; save the text as UTF-8, or write: iconv -f WINDOWS-1252 -t UTF-8 FILE\n"
+        ),
+        (Fault::InputTooLarge, _) => write!(
+            writer,
+            "onixdesk: {name}{mark}more than 4,194,304 bytes; cut a batch between two requests, and convert a feed into more parts (onixdesk convert --parts P)\n"
+        ),
+        _ => Ok(()),
+    };
     status
 }

@@ -1,73 +1,16 @@
 //! Why a text is no precedence table or no table of terms. Of an item that is none its reader is asked
 //! which key makes it so: each in turn stands in one that is right, in place of that one's own.
 
-use crate::keys::{Key, RULE, TERM};
+use crate::keys::{Form, Key};
 use feed_terms::table::Terms;
 use price_rules::precedence::Precedence;
 use std::alloc::{AllocError, Global};
 use std::io::Write;
 use toml::{Table, Value};
 
-/// The file of a text.
-#[derive(Clone, Copy)]
-pub(crate) enum File<'a> {
-    /// The rules, in the file of this name.
-    Rules(&'a str),
-    /// The terms.
-    Terms,
-}
-
-// What a table of a kind has: the array of its items, the keys of an item, also as they are told; and
-// how a line begins, of the whole and of an item.
-#[derive(Clone, Copy)]
-struct Form<'a> {
-    array: &'static str,
-    keys: &'static [Key],
-    names: &'static str,
-    name: &'a str,
-    whole: &'static str,
-    item: &'static str,
-}
-
-impl<'a> File<'a> {
-    fn form(self) -> Form<'a> {
-        match self {
-            File::Rules(name) => Form {
-                array: "rule",
-                keys: &RULE[..],
-                names: "series, max, codes",
-                name,
-                whole: "",
-                item: "rule ",
-            },
-            File::Terms => Form {
-                array: "term",
-                keys: &TERM[..],
-                names: "types, codes, scheme, supplier, currency, net, percent, tax",
-                name: "terms",
-                whole: "not TOML: ",
-                item: "bad term ",
-            },
-        }
-    }
-
-    // Whether a text is a table of its kind.
-    fn takes(self, alloc: Global, text: &str) -> bool {
-        match self {
-            File::Rules(_) => Precedence::read(alloc, text).is_ok(),
-            File::Terms => Terms::read(alloc, text).is_ok(),
-        }
-    }
-}
-
 // A table of one item that is right, but for this key and the one beside it, which are those of
 // another.
-fn text_with(
-    alloc: Global,
-    form: &Form<'_>,
-    item: &Table,
-    judged: &Key,
-) -> Result<String, AllocError> {
+fn text_with(alloc: Global, form: &Form, item: &Table, judged: &Key) -> Result<String, AllocError> {
     let mut text = format!(in alloc; "[[{}]]\n", form.array)?;
     for key in form.keys {
         let name = key.name;
@@ -83,13 +26,16 @@ fn text_with(
 // The first key for which an item is none.
 fn first_wrong(
     alloc: Global,
-    file: File<'_>,
+    form: &Form,
     item: &Table,
 ) -> Result<Option<&'static Key>, AllocError> {
-    let form = file.form();
     for key in form.keys {
-        let text = text_with(alloc, &form, item, key)?;
-        if !file.takes(alloc, text.as_str()) {
+        let text = text_with(alloc, form, item, key)?;
+        let is_taken = match form.array {
+            "rule" => Precedence::read(alloc, text.as_str()).is_ok(),
+            _ => Terms::read(alloc, text.as_str()).is_ok(),
+        };
+        if !is_taken {
             return Ok(Some(key));
         }
     }
@@ -109,14 +55,14 @@ fn why_other(alloc: Global, names: &str, table: &Table) -> Result<Option<String>
 }
 
 // Why an item is none.
-fn why_item(alloc: Global, file: File<'_>, item: Option<&Value>) -> Result<String, AllocError> {
+fn why_item(alloc: Global, form: &Form, item: Option<&Value>) -> Result<String, AllocError> {
     let Some(item) = item.and_then(Value::as_table) else {
         return String::from_str(alloc, "no table");
     };
-    if let Some(why) = why_other(alloc, file.form().names, item)? {
+    if let Some(why) = why_other(alloc, form.names, item)? {
         return Ok(why);
     }
-    match first_wrong(alloc, file, item)? {
+    match first_wrong(alloc, form, item)? {
         Some(key) if item.get(key.name).is_some() => {
             format!(in alloc; "{} is not {}", key.name, key.rule)
         }
@@ -128,11 +74,11 @@ fn why_item(alloc: Global, file: File<'_>, item: Option<&Value>) -> Result<Strin
 // Why a text is no table, or why the item at a number of its array is none.
 fn why(
     alloc: Global,
-    file: File<'_>,
+    form: &Form,
     text: &[u8],
     number: Option<usize>,
 ) -> Result<String, AllocError> {
-    let array = file.form().array;
+    let array = form.array;
     let table = match toml::table_from_slice(alloc, text) {
         Ok(table) => table,
         Err(error) => {
@@ -148,7 +94,7 @@ fn why(
     if let Some(number) = number {
         let items = table.get(array).and_then(Value::as_array);
         let item = items.and_then(|items| items.get(number.saturating_sub(1)));
-        return why_item(alloc, file, item);
+        return why_item(alloc, form, item);
     }
     match why_other(alloc, array, &table)? {
         Some(why) => Ok(why),
@@ -156,18 +102,17 @@ fn why(
     }
 }
 
-/// Writes the line of a fault of this text, of the item at a number where there is one. Without memory
-/// it is lost.
+/// Writes the line of a fault of the text of this name, of the item at a number where there is one.
+/// Without memory it is lost.
 pub(crate) fn write_fault<E: Write>(
     alloc: Global,
-    file: File<'_>,
+    form: &Form,
+    name: &str,
     text: &[u8],
     number: Option<usize>,
     errors: &mut E,
 ) {
-    let form = file.form();
-    let name = form.name;
-    let Ok(told) = why(alloc, file, text, number) else {
+    let Ok(told) = why(alloc, form, text, number) else {
         return;
     };
     let _ = match number {

@@ -5,7 +5,8 @@ ghost use Rattle.csv_records.specs.RecordTexts.{limit};
 ghost use Rattle.csv_records.specs.Streams.{InputFits};
 ghost use Rattle.program_rules.specs.RulesFile.{ReadsTable, RulesFit, status_of};
 
-use crate::faults::{File, write_fault};
+use crate::faults::write_fault;
+use crate::keys::RULES;
 use crate::unread::read_text;
 use csv_records::streams::InputFault;
 use price_rules::precedence::{Precedence, PrecedenceFault};
@@ -83,7 +84,7 @@ fn report_text<E: Write>(
     if is_option {
         let _ = write!(errors, "onixdesk: rules: {fault}\n");
     }
-    write_fault(alloc, File::Rules(name), text, number, errors);
+    write_fault(alloc, &RULES, name, text, number, errors);
 }
 
 /// Reads the table in the file of this name. If there is none, or the file cannot be read, that is

@@ -7,7 +7,8 @@ ghost use Rattle.feed_terms.specs.Reading.{TermsFit};
 ghost use Rattle.feed_terms.specs.declared.reading.ReadFault.{ReadFault};
 ghost use Rattle.program_rules.specs.TermsRead.{IsUnreadTable, ReadsTerms, terms_status};
 
-use crate::faults::{File, write_fault};
+use crate::faults::write_fault;
+use crate::keys::TERMS;
 use crate::unread::read_text;
 use csv_records::streams::InputFault;
 use feed_terms::reading::{ReadFault, terms_of};
@@ -43,10 +44,10 @@ fn report_text<E: Write>(alloc: Global, text: &[u8], fault: &ReadFault, errors: 
     match fault {
         ReadFault::Table(TermsFault::Memory) => return report(&Fault::Memory, errors),
         ReadFault::Table(TermsFault::BadTerm { index }) => {
-            write_fault(alloc, File::Terms, text, Some(*index as usize), errors);
+            write_fault(alloc, &TERMS, "terms", text, Some(*index as usize), errors);
         }
         ReadFault::Table(TermsFault::NotToml) => {
-            write_fault(alloc, File::Terms, text, None, errors);
+            write_fault(alloc, &TERMS, "terms", text, None, errors);
         }
         ReadFault::Unreadable => {}
     }

@@ -32,7 +32,9 @@ impl<'a, W: Write, E: Write, C: Clock> Watched<'a, W, E, C> {
     }
 
     /// Says on `errors` why the writer takes no more, if it gave an error that shows it.
-    pub fn tell_fault(&mut self) {
+    pub fn tell_fault(&mut self)
+        ensures { self.new ≡ record self.old { errors = self.new.errors } }
+    {
         let why = match self.fault {
             Some(ErrorKind::BrokenPipe) => "the program that reads it has ended",
             Some(ErrorKind::StorageFull | ErrorKind::QuotaExceeded) => "no space left on the disk",
@@ -44,7 +46,10 @@ impl<'a, W: Write, E: Write, C: Clock> Watched<'a, W, E, C> {
     }
 
     /// Takes the line away.
-    pub fn clear(&mut self) {
+    pub fn clear(&mut self)
+        ensures { self.new
+            ≡ record self.old { errors = self.new.errors; progress = self.new.progress } }
+    {
         self.progress.clear(&mut self.errors);
     }
 }

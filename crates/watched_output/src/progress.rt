@@ -1,5 +1,7 @@
 //! A line on a terminal that shows how many bytes were read or written.
 
+ghost use Rattle.std.specs.Prelude.{◌≡◌, None, false};
+
 use std::io::Write;
 use std::time::{Clock, Duration, Instant};
 
@@ -20,7 +22,10 @@ pub struct Progress<'a, C> {
 
 impl<'a, C: Clock> Progress<'a, C> {
     /// No line yet, and whether one is shown.
-    pub fn new(clock: &'a C, is_shown: bool) -> Progress<'a, C> {
+    pub fn new(clock: &'a C, is_shown: bool) -> Progress<'a, C>
+        ensures written { result.is_written ≡ false }
+        ensures shown { is_shown ≡ false → result.next ≡ None }
+    {
         Progress {
             clock,
             next: if is_shown {
@@ -34,7 +39,9 @@ impl<'a, C: Clock> Progress<'a, C> {
 
     /// Shows how many bytes there were so far, where the line has stood for 0.2 seconds. The cursor
     /// is left at its front, so that what follows is written over it.
-    pub fn show<E: Write>(&mut self, bytes: u64, errors: &mut E) {
+    pub fn show<E: Write>(&mut self, bytes: u64, errors: &mut E)
+        ensures { self.old.next ≡ None → (self.new ≡ self.old) × (errors.new ≡ errors.old) }
+    {
         let Some(next) = self.next else {
             return;
         };
@@ -51,7 +58,10 @@ impl<'a, C: Clock> Progress<'a, C> {
     }
 
     /// Takes the line away.
-    pub fn clear<E: Write>(&mut self, errors: &mut E) {
+    pub fn clear<E: Write>(&mut self, errors: &mut E)
+        ensures line { self.new ≡ record self.old { is_written = false } }
+        ensures nothing { self.old.is_written ≡ false → errors.new ≡ errors.old }
+    {
         if self.is_written {
             self.is_written = false;
             let _ = errors.write_all(CLEAR.as_bytes());

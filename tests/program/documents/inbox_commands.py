@@ -90,6 +90,10 @@ def taken_again(room: Room) -> Iterator[Outcome]:
         desk.take({})
         wanted = ["gaps,north,first=1,next=3,greatest=2,held=0,missing=0"]
         yield Outcome(f"{PAGE}: {command}", (ran.status, desk.ask("AskGaps,north")), (0, wanted))
+        for lose in ": >", "rm":
+            ran = desk.run([f"{lose} /var/lib/onixdesk-inbox/north/ledger.db", "onixdesk-inbox -- north"])
+            found = ran.status, "desk-restore COPY" in ran.errors.decode(), desk.ask("AskGaps,north")
+            yield Outcome(f"without its ledger: {lose}", found, (3, True, wanted))
 
 
 def set_up_and_removed(room: Room) -> Iterator[Outcome]:

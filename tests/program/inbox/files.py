@@ -7,7 +7,7 @@ from dataclasses import replace
 from typing import Any
 from unittest.mock import patch
 
-from onixdesk_shop.faults import BadEnd, Fault
+from onixdesk_shop.faults import BadEnd
 from onixdesk_shop.inbox import decide, keeping, report, show
 from onixdesk_shop.inbox.command_line import numbers_word
 from onixdesk_shop.inbox.context import DAY
@@ -58,13 +58,6 @@ def order_without_ledger(room: Room) -> Iterator[Outcome]:
     inbox.desk = desk
     inbox.run()
     yield Outcome("the first one", price_of(inbox, "R1"), "1.000")
-    inbox = inbox_in(room, "lost with two", number=NEXT)
-    for amount in "1.00", "2.00":
-        inbox.take(f"{amount}.xml", feed_of(None, {"R1": amount}))
-    inbox.ledger.unlink()
-    with contextlib.suppress(Fault):
-        inbox.run()
-    yield Outcome("two, of a lost ledger", (price_of(inbox, "R1"), [*inbox.series.had]), ("2.000", [1, 2]))
 
 
 def order_of_one_number(room: Room) -> Iterator[Outcome]:

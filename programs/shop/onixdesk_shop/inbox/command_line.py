@@ -10,7 +10,7 @@ from pathlib import Path
 
 from onixdesk_shop.desk import Desk
 from onixdesk_shop.ends import parser_of, program_of
-from onixdesk_shop.faults import BadCall
+from onixdesk_shop.faults import BadCall, Fault
 from onixdesk_shop.inbox import decide, report, run, show
 from onixdesk_shop.inbox.context import Inbox, Places
 from onixdesk_shop.inbox.ledger import Ledger
@@ -114,6 +114,9 @@ def opened(machine: Machine, options: argparse.Namespace) -> Iterator[Inbox]:
         become_owner(folder)
     machine.make_folder(folder)
     machine.make_folder(folder / STORE)
+    has_ledger = machine.exists(folder / LEDGER) and machine.entry(folder / LEDGER).size
+    if machine.entries(folder / STORE) and not has_ledger:
+        raise Fault(f"desk-restore COPY (puts it back), or empty {folder / STORE}; {folder / LEDGER} is gone")
     with machine.lock(folder), contextlib.closing(Ledger(machine, folder / LEDGER)) as ledger:
         desk = Desk(machine, settings.batches)
         yield Inbox(machine, options.series, settings, places, ledger, desk, shop, terms)

@@ -4,7 +4,6 @@ import os
 import re
 from pathlib import Path
 
-from onixdesk_shop.faults import Fault
 from onixdesk_shop.inbox.context import Inbox
 from onixdesk_shop.inbox.keeping import AT_END
 from onixdesk_shop.inbox.ledger import Decision, State
@@ -131,12 +130,9 @@ def subject_of(entry: Entry) -> str:
 
 
 def adopt(inbox: Inbox) -> None:
-    """Takes in files in the store without a row: a ledger was restored from a copy, or its writer was killed. Fault if
-    the ledger has none: a kill leaves at most one."""
-    machine, stored = inbox.machine, inbox.machine.entries(inbox.store)
-    if len(stored) > 1 and not inbox.ledger.files("1"):
-        raise Fault(f"the ledger is lost: desk-restore COPY puts it back; to begin anew, move {inbox.store} away")
-    for entry in stored:
+    """Takes in files in the store without a row: a ledger was restored from a copy, or its writer was killed."""
+    machine = inbox.machine
+    for entry in machine.entries(inbox.store):
         found = is_stored(entry.name)
         if not found:
             machine.remove(inbox.store / entry.name)

@@ -47,6 +47,14 @@ def order(room: Room) -> Iterator[Outcome]:
     )
 
 
+def clock_ahead(room: Room) -> Iterator[Outcome]:
+    """A file that came while the clock was ahead is taken once the clock is right."""
+    inbox = inbox_in(room, "ahead")
+    inbox.send("1.xml", feed_of(1, {"R1": "1.00"}), START + 30 * DAY)
+    inbox.run()
+    yield Outcome("it is taken", inbox.states(), {"1.xml": "applied"})
+
+
 def order_without_ledger(room: Room) -> Iterator[Outcome]:
     """A file in the store keeps its time, even if its row is lost and it comes again."""
     inbox = inbox_in(room, "lost")

@@ -45,7 +45,7 @@ def take_entry(inbox: Inbox, entry: Entry) -> None:
         why = "it is not a regular file"
     elif Path(name).suffix not in ENDINGS:
         why = f"it does not end in {', '.join(ENDINGS)}"
-    elif inbox.machine.now() - entry.changed / 1e9 < inbox.settings.unchanged_seconds:
+    elif abs(inbox.machine.now() - entry.changed / 1e9) < inbox.settings.unchanged_seconds:
         return
     else:
         why = take_file(inbox, entry)

@@ -33,8 +33,7 @@ class OfInbox(Scenario):
     def __init__(self, room: Room) -> None:
         super().__init__(room)
         batch(room, "".join(f"Agree,s{place},06,S{place},,,1\n" for place in range(SERIES)).encode())
-        socket = ["--batches", str(room.path("batches"))]
-        self.desk = started(room, ["--db", DATABASE, "--existing"], None, socket)
+        self.desk = started(room, ["--db", DATABASE, "--existing"], None, ["--batches", str(room.path("batches"))])
         self.places = itertools.count()
         for name in ("settings", "incoming", "inboxes", "state"):
             room.path(name).mkdir()

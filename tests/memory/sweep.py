@@ -29,18 +29,17 @@ class MemoryFault(Exception):
 
 
 class Sweep(NamedTuple):
-    """A test, the name of its cases, or nothing for all that it has, which of its requests for memory
-    are refused, the first one and each so many from there, and whether a run ends behind the case in which
-    a call lacked memory, or goes on."""
+    """A test, the name of its cases, which of its requests for memory are refused, the first one and each so many from
+    there, and whether a run ends behind the case in which a call lacked memory, or goes on."""
 
     test: str
-    cases: str = ""
+    cases: str
     first: int = 1
     step: int = 1
     ends: bool = False
 
     def name(self) -> str:
-        return f"{self.test}, {self.cases or 'all cases'}"
+        return f"{self.test}, {self.cases}"
 
     def parts(self, count: int) -> list["Sweep"]:
         """So many sweeps that together refuse the same requests."""
@@ -95,10 +94,9 @@ class Tests:
         self, sweep: Sweep, environment: dict[str, str], said: IO[bytes], passed: Collection[int] = ()
     ) -> bytes:
         """What the test writes on standard error, the file `said`, in this environment, if it passes."""
-        chosen = {"CASES": sweep.cases} if sweep.cases else {}
         status = subprocess.run(
             [self.program, sweep.test],
-            env={**chosen, **environment},
+            env={"CASES": sweep.cases, **environment},
             stdin=subprocess.DEVNULL,
             stdout=subprocess.DEVNULL,
             stderr=said,

@@ -38,8 +38,7 @@ def numbers(room: Room, query: str) -> list[int]:
 
 
 def table_names(room: Room, file: str = DATABASE) -> list[str]:
-    query = "SELECT name FROM sqlite_schema WHERE type = 'table' ORDER BY name"
-    return [name for (name,) in rows(room, query, file)]
+    return [name for (name,) in rows(room, "SELECT name FROM sqlite_schema WHERE type = 'table' ORDER BY name", file)]
 
 
 def all_rows(room: Room, file: str = DATABASE) -> dict[str, list[Row]]:
@@ -137,8 +136,7 @@ def rules_come_first(room: Room) -> Iterator[Outcome]:
     execute(room, REFUSED[-1][0])
     for command in "batch", "migrate":
         came = room.run("--db", DATABASE, "--rules", "absent.toml", command, given=UNREADABLE)
-        wanted = Ran(2, b"", b"onixdesk: file: absent.toml\n")
-        yield Outcome(f"rules before the database: {command}", came, wanted)
+        yield Outcome(f"rules before the database: {command}", came, Ran(2, b"", b"onixdesk: file: absent.toml\n"))
 
 
 def migration_of_an_empty_file(room: Room) -> Iterator[Outcome]:
@@ -158,13 +156,11 @@ def migration_of_an_empty_file(room: Room) -> Iterator[Outcome]:
 def refused_migrations(room: Room) -> Iterator[Outcome]:
     """A missing database file for a migration is reported before a bad rules file."""
     came = room.run("--rules", "absent.toml", "migrate", given=UNREADABLE)
-    wanted = Ran(2, b"", b"onixdesk: migrate needs --db\n")
-    yield Outcome("migrate: no database", came, wanted)
+    yield Outcome("migrate: no database", came, Ran(2, b"", b"onixdesk: migrate needs --db\n"))
 
     statements, line = REFUSED[0]
     execute(room, statements)
-    ran = room.run("--db", DATABASE, "migrate", given=UNREADABLE)
-    came = ran, numbers(room, VERSION)
+    came = room.run("--db", DATABASE, "migrate", given=UNREADABLE), numbers(room, VERSION)
     yield Outcome("migrate: version 7", came, (Ran(3, b"", line), [7]))
 
 

@@ -171,8 +171,10 @@ class FakeMachine(Machine):
         seconds: float | None = None,
     ) -> Ended:
         self.step("child")
-        if {"convert", "check"}.intersection(words) and (seconds or 0) < self.program_seconds:
-            raise BadEnd("onixdesk takes too long")
+        if {"convert", "check"}.intersection(words):
+            self.clock += self.program_seconds
+            if (seconds or 0) < self.program_seconds:
+                raise BadEnd("onixdesk takes too long")
         ended = fake_program.ended([str(word) for word in words], text if isinstance(text, bytes) else b"".join(text))
         if ended.status not in known:
             raise BadEnd(f"{words[0]} ended with status {ended.status}")

@@ -369,8 +369,7 @@ def words(tables: SearchStrategy[tuple[Term, ...] | None], more: int) -> SearchS
 
 
 def term(types: tuple[str, ...], percent: str, codes: set[str], scheme: str, *others: str) -> Term:
-    net = "07" if "05" in types else "05"
-    return Term(types, net, percent, tuple(sorted(codes)), scheme if codes else "", *others)
+    return Term(types, "07" if "05" in types else "05", percent, tuple(sorted(codes)), scheme if codes else "", *others)
 
 
 TERM = st.builds(

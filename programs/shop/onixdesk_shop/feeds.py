@@ -103,7 +103,7 @@ def convert(
     return messages, said
 
 
-def check(machine: Machine, program: Path, message: bytes, limit: int) -> str:
+def check(machine: Machine, program: Path, message: bytes, limit: float) -> str:
     """Why the desk would refuse a message, or an empty text."""
     if message.decode(errors="replace").encode() != message:
         return "it is not UTF-8"

@@ -72,8 +72,7 @@ class Machine:
     def entry(self, path: Path) -> Entry:
         found = os.lstat(path)
         is_regular = stat.S_ISREG(found.st_mode)
-        times = found.st_mtime_ns, found.st_ctime_ns
-        return Entry(path.name, found.st_size, *times, is_regular, found.st_ino)
+        return Entry(path.name, found.st_size, found.st_mtime_ns, found.st_ctime_ns, is_regular, found.st_ino)
 
     def copy(self, source: Path, target: Path) -> str:
         """Copies a regular file with its time, syncs the copy, and returns the SHA-256 of its bytes."""

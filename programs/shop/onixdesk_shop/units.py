@@ -28,8 +28,7 @@ class Units:
     def __init__(self, machine: Machine) -> None:
         self.machine = machine
         try:
-            words = "list-units", "--plain", "--no-legend", STATES, "onixdesk*"
-            lines = self.systemctl(*words).splitlines()
+            lines = self.systemctl("list-units", "--plain", "--no-legend", STATES, "onixdesk*").splitlines()
         except BadEnd:
             lines = []
         self.all = [unit for unit in (line.split()[0] for line in lines if line.strip()) if is_own(unit)]

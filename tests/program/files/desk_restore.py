@@ -225,6 +225,12 @@ def ledgers(room: Room) -> Iterator[Outcome]:
     shop.inbox.run()
     run(shop, copy, gaps=True)
     yield Outcome("where one has no file", [*shop.inbox.states()], ["1.xml"])
+    shop.inbox.ledger.unlink()
+    damage = "UPDATE sqlite_schema SET rootpage = 2 WHERE name = 'decision_by_subject'"
+    with closing(sqlite3.connect(copy / f"ledgers/{SERIES}.db")) as ledger:
+        ledger.executescript(f"PRAGMA writable_schema=ON; {damage};")
+    found = run(shop, copy, gaps=True) > 0, shop.inbox.ledger.exists()
+    yield Outcome("where the copy's is not sound", found, (True, False))
 
 
 def log_of_a_lost_ledger(room: Room) -> Iterator[Outcome]:

@@ -450,10 +450,10 @@ def unforeseen(room: Room) -> Iterator[Outcome]:
 
 
 def slow(room: Room) -> Iterator[Outcome]:
-    """A conversion and a check have a minute, and half an hour once a person let the file in."""
+    """A conversion and its check have a minute, and half an hour once a person let the file in."""
     inbox = inbox_in(room, "slow")
     inbox.send("1.xml", feed_of(1, {"R1": "1.00"}))
-    for takes, wanted in (61, "quarantined"), (1801, "quarantined"), (1800, "applied"):
+    for takes, wanted in (31, "quarantined"), (901, "quarantined"), (890, "applied"):
         machine = inbox.machine()
         machine.program_seconds = takes
         (line,) = inbox.run(machine)

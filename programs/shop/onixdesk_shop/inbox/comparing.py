@@ -26,8 +26,7 @@ MOST_ASKED, MOST_LOOKED_AT, MOST_QUESTIONS, MOST_KINDS, AT_ONCE = 4_000, 1_000, 
 
 DAYS = 90
 
-# How long the other desk may take, and how large its one message may be.
-SECONDS = 60
+# How large the one message of the other desk may be.
 MOST_BYTES, MOST_RECORDS = 3 << 20, 19_998
 
 # The spans of a reference's offers: first day, last day, and an amount in thousandths, or None without a price.
@@ -184,7 +183,8 @@ def both_answers(
     message = [["Message", "2", *parties, "1", "", "", "", ""], *body, ["EndMessage", str(len(body) + 1)]]
     batch = text_of([["Agree", inbox.series, *parties, "1"], *message]) + "\n".join(questions) + "\n"
     rules: list[str | Path] = ["--rules", inbox.places.rules] if inbox.machine.exists(inbox.places.rules) else []
-    ended = inbox.machine.run([inbox.places.program, *rules, "batch"], (DONE, FAILED), batch.encode(), seconds=SECONDS)
+    left = inbox.until - inbox.machine.now()
+    ended = inbox.machine.run([inbox.places.program, *rules, "batch"], (DONE, FAILED), batch.encode(), left)
     made = itertools.islice(answers_in(records_of(ended.output)), 2, None)
     return answers_of(ask(inbox, questions), isbns, kinds), answers_of(made, isbns, kinds)
 

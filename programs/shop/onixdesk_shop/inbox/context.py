@@ -42,6 +42,8 @@ class Inbox:
     shop: Shop | None = None
     terms: bytes | None = None
     has_error: bool = False
+    # When the file that is judged has to be.
+    until: float = 0
 
     @property
     def incoming(self) -> Path:

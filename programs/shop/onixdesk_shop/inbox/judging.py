@@ -23,7 +23,7 @@ from onixdesk_shop.places import WORK
 # With more records of one ISBN, a question about it keeps all others waiting.
 MOST_RECORDS_OF_ONE_ISBN = 1000
 
-# How long a conversion and each check may take, and those of a file which a person let in.
+# How long it may take to judge a file, and one that a person let in.
 SECONDS, LET_IN_SECONDS = 60, 1800
 
 
@@ -82,7 +82,8 @@ def quarantine_file(inbox: Inbox, file: File, why: str) -> None:
 
 def feed_of(inbox: Inbox, file: File, gaps: Gaps, words: list[str], terms: bytes | None) -> Feed:
     """A file as messages, under the number that it has or would get."""
-    source, seconds = inbox.stored(file), LET_IN_SECONDS if inbox.is_let_in(file) else SECONDS
+    seconds = LET_IN_SECONDS if inbox.is_let_in(file) else SECONDS
+    source, inbox.until = inbox.stored(file), inbox.machine.now() + seconds
     if not inbox.machine.exists(source):
         raise Refusal("its bytes are not kept any more; have it sent again")
     if file.ending == ".csv":
@@ -98,7 +99,7 @@ def feed_of(inbox: Inbox, file: File, gaps: Gaps, words: list[str], terms: bytes
         texts, said = convert(
             inbox.machine, inbox.places.program, source, [*words, *number], terms, inbox.folder / WORK, seconds
         )
-    return Feed(file, [message_of(inbox, text, seconds) for text in texts], words, terms, said)
+    return Feed(file, [message_of(inbox, text) for text in texts], words, terms, said)
 
 
 def agreement(inbox: Inbox, file: File) -> str:
@@ -111,9 +112,9 @@ def agreement(inbox: Inbox, file: File) -> str:
     return inbox.ledger.agreement(inbox.series, inbox.settings.sender, addressee=addressee)
 
 
-def message_of(inbox: Inbox, text: bytes, seconds: int) -> Message:
+def message_of(inbox: Inbox, text: bytes) -> Message:
     """A text of this wholesaler, with a number, that the desk takes; raises Refusal for any other."""
-    why = check(inbox.machine, inbox.places.program, text, seconds)
+    why = check(inbox.machine, inbox.places.program, text, inbox.until - inbox.machine.now())
     if why or not is_message(text):
         raise Refusal(why or "its records are not one message")
     header = header_of(text)

@@ -51,8 +51,7 @@ def judge_products(feed: Feed) -> None:
         raise Quarantine("it has neither a Product nor a NoProduct")
     if feed.said.count("no SupplyDetail of the supplier"):
         raise Quarantine("it has no SupplyDetail of the supplier that WORDS names, and some of others")
-    is_feed = feed.file.ending != ".csv"
-    emptied = feed.said.count("Product emptied", "Product left out") if is_feed else feed.bare
+    emptied = feed.bare if feed.file.ending == ".csv" else feed.said.count("Product emptied", "Product left out")
     total = feed.products + feed.said.count("Product left out")
     # The converter does not say which products are both: these count twice.
     count = emptied + feed.said.wrong

@@ -119,6 +119,9 @@ class Restore:
                 file = self.work.folder / f"{name}.db"
                 if not machine.exists(file):
                     machine.copy(options.copy / LEDGERS / f"{name}.db", file)
+                with machine.reading(file) as ledger:
+                    if (wrong := ledger.execute("PRAGMA integrity_check").fetchone()[0]) != "ok":
+                        raise Failed(f"{options.copy}: its ledger of {name} is not sound: {cut(wrong)}")
                 found.append(Inbox(machine, name, file, options.settings))
         return found
 

@@ -3,6 +3,9 @@ use Rattle.std.specs.Prelude.{ℕ, Bool, ◌==◌, ◌++◌, List, if◌then◌e
 use Rattle.std.specs.Prelude.{chars, codes, length, nat_eq, nat_lt, take}
 use Rattle.std.specs.Str.Lossy.{utf8_lossy}
 use Rattle.std.specs.List.{after_first, before_first, position_or_len}
+use Rattle.std.specs.Str.{bytes_eq}
+use Rattle.feed_files.specs.declared.reasons.Fate.{Fate}
+use Rattle.feed_files.specs.declared.reasons.Fate.TheVariants as fate
 use Rattle.watched_output.specs.Shown.{shown}
 
 -- so many bytes of a text at most
@@ -24,3 +27,15 @@ filled words value =
     if nat_lt (position_or_len is_star words) (length words)
     then before_first is_star words ++ value_text value ++ after_first is_star words
     else words
+
+-- what becomes of an element of a name
+abbrev pub fate_words : Fate → List ℕ → List ℕ
+fate_words fate.Emptied name = codes " emptied: "
+fate_words fate.Lost name = codes " left out: "
+fate_words fate.LeftOut name =
+    if bytes_eq name (codes "Territory") then codes " without " else codes " left out: "
+fate_words _ name = codes " "
+
+-- the same, and why
+abbrev pub fate_text : Fate → List ℕ → List ℕ → List ℕ → List ℕ
+fate_text fate name words value = value_text name ++ fate_words fate name ++ filled words value

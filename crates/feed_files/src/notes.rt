@@ -167,13 +167,6 @@ impl<'a> Notes<'a> {
         }
     }
 
-    // Takes notice of how a stranger is called. Without memory less is said of it.
-    fn notice_stranger(&mut self, called: &[u8]) {
-        if self.stranger.is_empty() && !called.is_empty() {
-            let _ = push_value(&mut self.stranger, name_of_stranger(called));
-        }
-    }
-
     // How many Prices of a product, of which these records are written, stand beside another of
     // another amount. Where terms compute prices, those count that are written without.
     fn count_doublets(
@@ -224,7 +217,6 @@ impl<'a> Notes<'a> {
         }
         self.summary
             .count(Beside::Again, count_again(None, &header.below, false));
-        self.notice_stranger(first_called(&header.below));
         if self.header.is_empty() {
             if let Some(found) = malformed_field(&options.choices, &header.below) {
                 let _ = write!(self.header, "{:?} ", found.field);
@@ -233,14 +225,22 @@ impl<'a> Notes<'a> {
         }
     }
 
-    /// Takes notice of a Header, of a stranger, or of what says that there is no Product.
+    /// Takes notice of a Header, of a stranger, or of what says that there is no Product. Without
+    /// memory less is said of a stranger.
     pub(crate) fn notice(&mut self, element: &Composite<'_>) {
-        if element.line.name == b"Header".as_slice() {
-            self.notice_header(element);
-        } else if element.line.name == b":".as_slice() {
-            self.notice_stranger(element.line.called.as_slice());
-        } else {
-            self.has_products = true;
+        let called = match element.line.name {
+            b"Header" => {
+                self.notice_header(element);
+                first_called(&element.below)
+            }
+            b":" => element.line.called.as_slice(),
+            _ => {
+                self.has_products = true;
+                b""
+            }
+        };
+        if self.stranger.is_empty() && !called.is_empty() {
+            let _ = push_value(&mut self.stranger, name_of_stranger(called));
         }
     }
 

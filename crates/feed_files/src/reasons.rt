@@ -1,5 +1,8 @@
 //! The words of each reason for which something is left out, emptied, or written with a note.
 
+ghost use Rattle.std.specs.Prelude.{◌≡◌, ◌++◌, OnOk, string_bytes};
+ghost use Rattle.feed_files.specs.Lines.{fate_text};
+
 use crate::shown::{push_value, push_words};
 use feed_mapping::{Foreign, ReasonKind, Wrong};
 use std::alloc::AllocError;
@@ -134,7 +137,10 @@ pub(crate) fn push_fate(
     name: &[u8],
     told: &Told,
     value: &[u8],
-) -> Result<(), AllocError> {
+) -> Result<(), AllocError>
+    ensures { OnOk result (string_bytes line.new ≡ string_bytes line.old
+        ++ fate_text told.now.fate name.now told.now.words.now value.now) }
+{
     push_value(line, name)?;
     line.push_str(match told.fate {
         Fate::Emptied => " emptied: ",

@@ -137,22 +137,6 @@ fn of_refused<'a>(refusal: &'a Refusal, notes: &'a Notes<'_>) -> (Position, Word
     }
 }
 
-// Adds the numbers of a refusal that has such.
-fn push_numbers(
-    line: &mut String,
-    refusal: &Refusal,
-    options: &Options<'_>,
-) -> Result<(), AllocError> {
-    match refusal {
-        Refusal::Wrong(wrong, products, _, _) => write!(line, "{wrong} of {products}"),
-        Refusal::Parts(count, _) => {
-            let parts = options.choices.parts;
-            write!(line, "the message needs {count} parts, not {parts}; ")
-        }
-        _ => Ok(()),
-    }
-}
-
 /// Adds the line of a FILE that was not converted, unless memory ran out; before it the lines on
 /// wrong products, where it is refused for these.
 pub(crate) fn push_refusal(
@@ -170,8 +154,15 @@ pub(crate) fn push_refusal(
     }
     push_place(line, known.file, &place)?;
     line.push_str("refused: ")?;
-    if let Fault::Refused(refusal) = fault {
-        push_numbers(line, refusal, known.options)?;
+    match fault {
+        Fault::Refused(Refusal::Wrong(wrong, products, _, _)) => {
+            write!(line, "{wrong} of {products}")?;
+        }
+        Fault::Refused(Refusal::Parts(count, _)) => {
+            let parts = known.options.choices.parts;
+            write!(line, "the message needs {count} parts, not {parts}; ")?;
+        }
+        _ => {}
     }
     push_words(line, words, value)?;
     line.push_str("\n")

@@ -1,6 +1,6 @@
 //! What is counted of the FILEs of a run.
 
-ghost use Rattle.std.specs.Prelude.{◌<◌};
+ghost use Rattle.std.specs.Prelude.{◌≡◌, ◌<◌, [], replicate};
 
 use crate::reasons::{Told, push_fate};
 use feed_mapping::Note;
@@ -58,7 +58,10 @@ pub struct Summary {
 }
 
 impl Summary {
-    pub(crate) fn new(alloc: Global) -> Summary {
+    pub(crate) fn new(alloc: Global) -> Summary
+        ensures reasons { result.reasons.items ≡ [] }
+        ensures counts { result.counts ≡ replicate 13 0 }
+    {
         Summary {
             reasons: Vec::new(alloc),
             counts: [0; 13],
@@ -66,7 +69,9 @@ impl Summary {
     }
 
     /// Counts so many more of that.
-    pub(crate) fn count(&mut self, what: Beside, more: u64) {
+    pub(crate) fn count(&mut self, what: Beside, more: u64)
+        ensures { self.new ≡ record self.old { counts = self.new.counts } }
+    {
         if let Some(count) = self.counts.get_mut(what as usize) {
             *count = count.saturating_add(more);
         }

@@ -29,4 +29,5 @@ named (c ∷ name) = shown 100 (chars (c ∷ name)) ++ codes ": "
 
 -- the line on what stands at a place of a file
 abbrev pub line_text : List ℕ → List ℕ → List ℕ → List ℕ
-line_text name place cause = codes "onixdesk: " ++ named name ++ place ++ codes ":" ++ cause ++ codes "\n"
+line_text name place cause =
+    codes "onixdesk: " ++ named name ++ place ++ codes ":" ++ cause ++ codes "\n"

@@ -113,7 +113,8 @@ pub struct Reasons<'a> {
 impl<'a> Reasons<'a> {
     /// Those of an exchange.
     pub fn of_exchange(alloc: Global, room: Room) -> Reasons<'a>
-        ensures { (result.room ≡ room) × (result.kept.items ≡ []) × (string_bytes result.text ≡ []) }
+        ensures { (result.room ≡ room) × (result.kept.items ≡ [])
+            × (string_bytes result.text ≡ []) }
     {
         Reasons {
             alloc,
@@ -127,7 +128,8 @@ impl<'a> Reasons<'a> {
 
     /// Those of the requests of a text. NAME is that of its file, or empty.
     pub fn of_text(alloc: Global, name: &'a str, bytes: &'a [u8], room: Room) -> Reasons<'a>
-        ensures { (result.room ≡ room) × (result.kept.items ≡ []) × (string_bytes result.text ≡ []) }
+        ensures { (result.room ≡ room) × (result.kept.items ≡ [])
+            × (string_bytes result.text ≡ []) }
     {
         let mut reasons = Reasons::of_exchange(alloc, room);
         reasons.name = name;

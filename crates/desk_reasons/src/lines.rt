@@ -17,7 +17,8 @@ pub(crate) struct RecordLines<'a> {
 impl<'a> RecordLines<'a> {
     /// Those of this text. A byte order mark at its front is on the first line.
     pub(crate) fn new(text: &'a [u8]) -> RecordLines<'a>
-        ensures { (result.text.now ≡ text.now) × (result.line ≡ 1) × (result.at ≡ 0) × (result.passed ≡ 0) }
+        ensures { (result.text.now ≡ text.now) × (result.line ≡ 1) × (result.at ≡ 0)
+            × (result.passed ≡ 0) }
     {
         RecordLines {
             text,

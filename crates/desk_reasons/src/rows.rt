@@ -15,7 +15,8 @@ pub(crate) struct Form {
 // A form: its name, how many fields, and each by its name and what it has to be; the one behind a
 // semicolon may be left out.
 macro_rules! form {
-    ($form:literal $count:literal $(, $name:literal: $kind:ident)* $(; $last:literal: $other:ident)?) => {
+    ($form:literal $count:literal $(, $name:literal: $kind:ident)*
+        $(; $last:literal: $other:ident)?) => {
         Form {
             name: $form,
             text: concat!($count, ": ", $form $(, ",", $name)* $(, "[,", $last, "]")?),

@@ -57,8 +57,7 @@ def main() -> int:
     if why := why or ("" if given.program.exists() else f"no program {given.program}; make build builds it"):
         print(f"tests/killed: {why}", file=sys.stderr)
         return 2
-    wrong = sum(try_one(name, given.program.resolve(), given.most) for name in names)
-    return 1 if wrong else 0
+    return 1 if sum(try_one(name, given.program.resolve(), given.most) for name in names) else 0
 
 
 if __name__ == "__main__":

@@ -19,8 +19,7 @@ from tests.running import PROGRAM, choice, command_line, left_out_whole, run_sid
 
 
 def main() -> int:
-    parser = command_line("tests/page/run", __doc__)
-    given = parser.parse_args()
+    given = command_line("tests/page/run", __doc__).parse_args()
     os.environ["PATH"] += ":/usr/sbin"
     program = (given.program or PROGRAM).resolve()
     if lacking := needs.why(needs.PAGE):

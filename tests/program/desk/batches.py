@@ -32,8 +32,7 @@ def case_of(path: Path, written: Written) -> Case:
     head, answers = written.parts[-1]
     texts = [written.text, *(text for _, text in written.parts[:-1])]
     *rules, batch = [unescaped(repeated(text)) if path.stem == "escaped" else text.encode() for text in texts]
-    status = int(head.removeprefix("status "))
-    return Case(written.name, batch, status, answers.encode(), *rules)
+    return Case(written.name, batch, int(head.removeprefix("status ")), answers.encode(), *rules)
 
 
 def words(case: Case, room: Room) -> list[str]:

@@ -143,8 +143,7 @@ def full_disks(room: Room) -> Iterator[Outcome]:
     exchange = Exchange("a delivery", posted(LARGE.encode()), line, body)
     with serving(full, ["--db", DATABASE], 2) as desk:
         yield Outcome("a delivery on a full disk", desk.reply([exchange.input]), exchange.reply())
-        came = desk.reply([NO_NUMBERS.input])
-        yield Outcome("a question on a full disk", came, NO_NUMBERS.reply())
+        yield Outcome("a question on a full disk", desk.reply([NO_NUMBERS.input]), NO_NUMBERS.reply())
         yield Outcome("the lines on a full disk", desk.ended(), desk.wanted(["503", "200"]))
     found = batch(room, LARGE.encode()), complaints(room)
     yield Outcome("the batch once there is room", found, (Ran(0, applied(1, RECORDS)), []))

@@ -88,8 +88,7 @@ def clients_that_are_gone(room: Room) -> Iterator[Outcome]:
         first.sendall(GAPS.input)
         receive(first)
         first.close()
-        came = desk.reply([GAPS.input])
-        yield Outcome("the gaps after clients that were gone", came, GAPS_AFTER_TWO.reply())
+        yield Outcome("the gaps after clients that were gone", desk.reply([GAPS.input]), GAPS_AFTER_TWO.reply())
         wanted = desk.wanted(["200", "200", "fault", "400", "200"])
         yield Outcome("the lines of clients that were gone", desk.ended(), wanted)
 
@@ -113,8 +112,7 @@ SHORT = Exchange("a short body", b"", "400 Bad Request", '{"answer":"refused","r
 
 def most_memory(desk: Serving) -> int:
     """The peak memory of the desk, in bytes."""
-    status = Path(f"/proc/{desk.process.pid}/status").read_text()
-    return 1024 * int(sought(r"^VmHWM:\s*([0-9]+) kB", status))
+    return 1024 * int(sought(r"^VmHWM:\s*([0-9]+) kB", Path(f"/proc/{desk.process.pid}/status").read_text()))
 
 
 def bodies_that_do_not_come(room: Room) -> Iterator[Outcome]:
@@ -130,16 +128,14 @@ def bodies_that_do_not_come(room: Room) -> Iterator[Outcome]:
         sent = most_memory(desk) - before
         yield Outcome("memory for one that comes but for a byte", sent > LARGEST // 2, True)
         desk.reply([GAPS.input])
-        wanted = desk.wanted(["404", "400", "400", "404"])
-        yield Outcome("the lines of short bodies", desk.ended(), wanted)
+        yield Outcome("the lines of short bodies", desk.ended(), desk.wanted(["404", "400", "400", "404"]))
 
 
 def unwritten_lines(room: Room) -> Iterator[Outcome]:
     """The desk ends before it serves a client if it cannot say that it listens."""
     wanted = Ran(3, b"", b"onixdesk: output\n")
     for _ in range(TRIES):
-        words = "serve", "--port", str(free_port()), "--requests", "1"
-        came = room.run(*words, given=UNREADABLE, is_full=True)
+        came = room.run("serve", "--port", str(free_port()), "--requests", "1", given=UNREADABLE, is_full=True)
         if came == wanted:
             break
     yield Outcome("a port whose lines cannot be written", came, wanted)

@@ -76,8 +76,7 @@ def most_input(room: Room) -> Iterator[Outcome]:
     [exchange] = [each for each in inputs("limits") if each.line.startswith("422")]
     yield agreed(room)
     with serving(room, WORDS, 1) as desk:
-        came = desk.reply(in_pieces(exchange.input, 1_000))
-        yield Outcome("most input", came, exchange.reply())
+        yield Outcome("most input", desk.reply(in_pieces(exchange.input, 1_000)), exchange.reply())
         yield Outcome("the line of most input", desk.ended(), desk.wanted([exchange.status()]))
 
 
@@ -126,8 +125,7 @@ def open_inputs(room: Room) -> Iterator[Outcome]:
         for exchange in [*OPEN_INPUTS, ONE_NUMBER]:
             came = desk.reply([exchange.input], keeps_open=True)
             yield Outcome(f"an open input: {exchange.name}", came, exchange.reply())
-        wanted = desk.wanted(["200", "400", "200"])
-        yield Outcome("the lines of open inputs", desk.ended(), wanted)
+        yield Outcome("the lines of open inputs", desk.ended(), desk.wanted(["200", "400", "200"]))
 
 
 def faults_of_storage(room: Room) -> Iterator[Outcome]:
@@ -143,8 +141,7 @@ def faults_of_storage(room: Room) -> Iterator[Outcome]:
         yield Outcome("the lines of faults", desk.ended(), desk.wanted(["503", "503"]))
     execute(room, "UPDATE series SET next_number = first_number")
     with serving(room, WORDS, 1) as desk:
-        came = desk.reply([NO_NUMBERS.input])
-        yield Outcome("after the repair", came, NO_NUMBERS.reply())
+        yield Outcome("after the repair", desk.reply([NO_NUMBERS.input]), NO_NUMBERS.reply())
 
 
 BOTH_WAYS = [at_once, byte_by_byte]

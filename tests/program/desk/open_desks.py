@@ -138,8 +138,7 @@ def in_turn(room: Room) -> Iterator[Outcome]:
         send(first, [HEAD[4:]])
         came = [receive(peer) for peer in [first, *at_port]]
         yield Outcome("in turn: the replies", came, [GAPS.reply()] * 5)
-        came = [receive(peer) for peer in at_socket]
-        yield Outcome("in turn: the answers", came, [NO_GAPS % (2, b"1")] * 2)
+        yield Outcome("in turn: the answers", [receive(peer) for peer in at_socket], [NO_GAPS % (2, b"1")] * 2)
         lines = ["200", "batch 0", "200", "batch 0", "200", "200", "200"]
         yield Outcome("in turn: the lines", desk.ended(), desk.wanted(lines))
 
@@ -259,7 +258,6 @@ def killed_amid_a_batch(room: Room) -> Iterator[Outcome]:
 def outputs_that_are_full(room: Room) -> Iterator[Outcome]:
     """The requests have taken effect, like those of `batch`."""
     with open_desk(room, 2) as desk:
-        came = sent(room, AGREEMENT, is_full=True)
-        yield Outcome("a full output", came, Ran(3, b"", b"onixdesk: output\n"))
+        yield Outcome("a full output", sent(room, AGREEMENT, is_full=True), Ran(3, b"", b"onixdesk: output\n"))
         yield Outcome("a full output: the desk", sent(room, QUESTION), Ran(0, NO_GAPS % (1, b"")))
         yield Outcome("a full output: the lines", desk.ended(), desk.wanted(["batch 0", "batch 0"]))

@@ -55,8 +55,7 @@ def cannot_be_tried(room: Room) -> Iterator[Outcome]:
     yield Outcome("rules: a full output", room.run("rules", "rules.toml", is_full=True), wanted)
     came = room.run("--db", "shop.db", "--rules", "absent.toml", "rules", "rules.toml")
     yield Outcome("rules: behind other options", came, Ran(0, b"rules 1\n"))
-    names = [path.name for path in room.folder.iterdir()]
-    yield Outcome("rules: no desk is opened", names, ["rules.toml"])
+    yield Outcome("rules: no desk is opened", [path.name for path in room.folder.iterdir()], ["rules.toml"])
 
 
 def come_before_the_input(room: Room) -> Iterator[Outcome]:

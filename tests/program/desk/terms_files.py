@@ -46,8 +46,7 @@ def wanted(case: Written) -> Ran:
     if warned == ["all preceded"]:
         earlier = dict.fromkeys(range(2, 1000), 1)
     else:
-        pairs = [line.split()[1:] for line in warned]
-        earlier = {int(later): int(first) for later, first in pairs}
+        earlier = {int(later): int(first) for later, first in [line.split()[1:] for line in warned]}
     text = unescaped(repeated(case.text)).decode()
     return Ran(0, f"{said}\n".encode(), b"".join(lines(text, earlier)))
 

@@ -131,8 +131,7 @@ def a_waiver_too_early(room: Room) -> Iterator[Outcome]:
     with machine(room, AGREEMENT.format("4012345000009", 4)) as desk:
         desk.take({"4.xml": feed(4, a="14.00", b="5.00")})
         desk.run(["onixdesk-inbox waive north 5"])
-        arrived = {"5.xml": feed(5, a="16.00", c="7.00")}
-        states = desk.take({"6.xml": feed(6, b="6.00")}) | desk.take(arrived)
+        states = desk.take({"6.xml": feed(6, b="6.00")}) | desk.take({"5.xml": feed(5, a="16.00", c="7.00")})
         yield Outcome("a waiver too early: its files", states["5.xml"], "refused")
         before, behind = {"a": "14.000", "b": "6.000"}, {"a": "16.000", "b": "6.000", "c": "7.000"}
         yield from undone_again(desk, "waive --back north 5", before, behind, b"")

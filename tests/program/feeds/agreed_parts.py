@@ -55,8 +55,7 @@ def answers_before(change: Change) -> str:
 
 def requests_before(change: Change, room: Room) -> bytes:
     words = ["--parts", str(change.before)]
-    messages = [message(number, room, *words) for number in range(1, change.message + 1)]
-    return AGREEMENT.encode() + b"".join(messages)
+    return AGREEMENT.encode() + b"".join(message(number, room, *words) for number in range(1, change.message + 1))
 
 
 def changed(change: Change, room: Room) -> Iterator[Outcome]:

@@ -47,6 +47,23 @@ def order(room: Room) -> Iterator[Outcome]:
     )
 
 
+def lost_answer(room: Room) -> Iterator[Outcome]:
+    """A message whose answer was lost, and which a desk without the agreement refused, keeps its number."""
+    inbox = inbox_in(room, "lost answer", number=NEXT, words=("--parts", "2"))
+    assert inbox.desk
+    empty = inbox.desk.copy()
+    inbox.take("a.xml", feed_of(None, {"R1": "1.00"}, parts=2))
+    inbox.send("b.xml", feed_of(None, {"R1": "2.00"}, parts=2))
+    with contextlib.suppress(Killed):
+        inbox.run(FakeMachine(inbox.disk, inbox.desk, inbox.clock, ("kill", "answered", 5)))
+    inbox.desk, had = empty, inbox.desk
+    inbox.series.parties = "06", "5012345678900", "", ""
+    inbox.run()
+    inbox.desk = had
+    inbox.run()
+    yield Outcome("its file has no other numbers", sorted(inbox.series.had), [1, 2, 3, 4])
+
+
 def clock_ahead(room: Room) -> Iterator[Outcome]:
     """A file that came while the clock was ahead is taken once the clock is right."""
     inbox = inbox_in(room, "ahead")
@@ -298,7 +315,7 @@ def refused(room: Room) -> Iterator[Outcome]:
     yield Outcome("the other one alone", sum(text.startswith(b"Message") for text in machine.posted), 1)
     inbox = inbox_in(room, "unanswered")
     inbox.send("1.xml", feed_of(1, {"R1": "1.00"}))
-    machine = FakeMachine(inbox.disk, inbox.desk, inbox.clock, ("kill", "answered", 3))
+    machine = FakeMachine(inbox.disk, inbox.desk, inbox.clock, ("kill", "answered", 5))
     with contextlib.suppress(Killed):
         inbox.run(machine)
     inbox.decide("refuse", "1.xml")
@@ -338,7 +355,7 @@ def waived(room: Room) -> Iterator[Outcome]:
     inbox.work(lambda each: decide.waive(each, [1]))
     inbox.run()
     inbox.send("1.xml", feed_of(1, {"R1": "1.00"}))
-    machine = FakeMachine(inbox.disk, inbox.desk, inbox.clock, ("kill", "answered", 4))
+    machine = FakeMachine(inbox.disk, inbox.desk, inbox.clock, ("kill", "answered", 5))
     try:
         inbox.run(machine)
     except Killed:

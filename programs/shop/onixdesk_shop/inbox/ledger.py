@@ -179,8 +179,7 @@ class Ledger:
         return any(row.was_taken for row in refused) or self.has_stood(file)
 
     def set_state(self, file: File, state: str, why: str = "") -> None:
-        now = int(self.machine.now())
-        self.do("UPDATE file SET state = ?, why = ?, at = ? WHERE id = ?", state, why, now, file.id)
+        self.do("UPDATE file SET state = ?, why = ?, at = ? WHERE id = ?", state, why, int(self.machine.now()), file.id)
 
     def set_of_file(self, file: File, **columns: Any) -> None:
         names = ", ".join(f"{name} = ?" for name in columns)

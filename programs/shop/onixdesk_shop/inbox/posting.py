@@ -135,14 +135,15 @@ def offset_for(inbox: Inbox, file: File, gaps: Gaps) -> list[str]:
 
 def retry_unknown(inbox: Inbox, gaps: Gaps) -> None:
     """Posts again what had no agreement, without a line: nothing else shows that the desk has agreed meanwhile. After
-    the first that it takes, files that no desk took before are judged anew, since there was nothing to compare them
-    with."""
+    the first that it takes, files of which it has nothing, and no desk took anything, are judged anew, since there was
+    nothing to compare them with."""
     ledger, is_agreed = inbox.ledger, False
     is_tried = "state = 'refused' AND why = ? OR state = 'new' AND answer = 'refused,unknown-series'"
     files = f"file IN (SELECT id FROM file WHERE {is_tried})"
     for row in ledger.messages(f"state = 'refused' AND text IS NOT NULL AND {files}", REASONS["unknown-series"]):
         file = ledger.file(row.file)
-        if row.number < gaps.first or file.state == State.POSTING or is_agreed and not ledger.is_final(file):
+        is_new = is_agreed and gaps.lacks(row.number) and not ledger.is_final(file)
+        if row.number < gaps.first or file.state == State.POSTING or is_new:
             continue
         ledger.set_message(row.number, State.POSTED)
         if isinstance(inbox.desk.post(ledger.text(row.number)), Taken):

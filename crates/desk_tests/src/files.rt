@@ -1,13 +1,13 @@
 //! Files that are opened for a call and closed behind it: a request to the desk in them, their way to version
-//! 2, calls of the tables, or statements of the test's own. What a call is stands in the first line of its text,
-//! and what it gives is written to the output that is lent.
+//! 2, a count of their rows, or statements of the test's own. What a call is stands in the first line of its
+//! text, and what it gives is written to the output that is lent.
 
 ghost use Rattle.std.specs.Prelude.{IsTrue};
 
 use crate::asking::{End, Taken, ask_store, end_of_fault, end_of_line};
 use crate::desks::{StoppedDesk, TestDesk};
 use crate::disks::{OPTIONS, TestFiles, copied, failing_files, stop_machine};
-use crate::table_calls::told;
+use crate::row_counts::counted;
 use desk_store::{Creation, DeskStore, OpenFault, OpenOptions, migrate_files_with};
 use desk_tables::rows::fault::fault_of;
 use desk_tables::tables::Tables;
@@ -30,8 +30,8 @@ pub enum Call<'a> {
     Ask(&'a Precedence, &'a str),
     /// To version 2, where it is not of that already.
     Migrate,
-    /// A call of the tables, by its name.
-    Tables(&'a str),
+    /// How many messages wait and are applied.
+    Count,
     /// Statements.
     Execute(&'a str),
 }
@@ -41,7 +41,7 @@ fn call_of<'a>(rules: &'a Precedence, text: &'a str) -> Call<'a> {
     let (first, rest) = text.split_once('\n').unwrap_or((text, ""));
     match first {
         "migrate" => Call::Migrate,
-        "count" | "move" => Call::Tables(first),
+        "count" => Call::Count,
         "execute" => Call::Execute(rest),
         _ => Call::Ask(rules, text),
     }
@@ -78,9 +78,9 @@ fn act_on<S: Alter + Drop>(
     output: &mut Vec<u8>,
 ) -> (Connection<S>, End) {
     match call {
-        Call::Tables(name) => {
+        Call::Count => {
             let mut tables = Tables::new(connection);
-            let end = match told(&mut tables, name) {
+            let end = match counted(&mut tables) {
                 Ok(line) => end_of_line(line, output),
                 Err(fault) => end_of_fault(fault),
             };
@@ -194,7 +194,7 @@ fn opened_for<D: Disk + Drop>(
     match call {
         Call::Ask(rules, request) => ask(alloc, files, rules, request, output),
         Call::Migrate => migrate(alloc, files, output),
-        Call::Tables(_) | Call::Execute(_) => connect(alloc, files, call, output),
+        Call::Count | Call::Execute(_) => connect(alloc, files, call, output),
     }
 }
 

@@ -19,6 +19,8 @@ mod lists;
 #[cfg(test)]
 mod refusals;
 #[cfg(test)]
+mod row_counts;
+#[cfg(test)]
 mod stores;
 #[cfg(test)]
 mod streams;

@@ -1,5 +1,5 @@
 //! Tests of the desks, and of files with the desk in tables: the lists of requests where memory may be
-//! refused, the calls of the tables, and what stands after a stop. `tests/run` has what the program shows.
+//! refused, and what stands after a stop. `tests/run` has what the program shows.
 
 mod desks;
 mod paths;

@@ -9,7 +9,7 @@ use crate::lists::exchanges::EXCHANGES;
 use crate::lists::expect_list;
 use crate::lists::questions::QUESTIONS;
 use crate::lists::steps::STEPS;
-use crate::lists::tables::{DRAINED_ROWS, MOVED_ROWS};
+use crate::lists::tables::DRAINED_ROWS;
 use crate::lists::versions::{FIRST_FILES, MIGRATION};
 use crate::refusals::{Refusals, are_chosen};
 use desk_memory::MemoryDesk;
@@ -95,9 +95,7 @@ fn desk_in_files(rt: HostRuntime) {
 fn make_calls<D: TestDesk + Drop, R: Abort + Env>(alloc: Global, rt: &R) {
     let migration = ask_behind::<D, R>(alloc, rt, FIRST_FILES, "migration", MIGRATION);
     let rows = ask_behind_forty::<D, R>(alloc, rt, "rows", DRAINED_ROWS);
-    let moved = ask_list::<D, R>(alloc, rt, "moved", MOVED_ROWS);
-    let is_one = migration | rows | moved;
-    expect(rt, is_one, "no cases of this name");
+    expect(rt, migration | rows, "no cases of this name");
 }
 
 #[test]

@@ -66,10 +66,10 @@ def lost_answer(room: Room) -> Iterator[Outcome]:
 
 def clock_ahead(room: Room) -> Iterator[Outcome]:
     """A file that came while the clock was ahead is taken once the clock is right."""
-    inbox = inbox_in(room, "ahead")
-    inbox.send("1.xml", feed_of(1, {"R1": "1.00"}), START + 30 * DAY)
-    inbox.run()
-    yield Outcome("it is taken", inbox.states(), {"1.xml": "applied"})
+    inbox = inbox_in(room, "ahead", number=NEXT)
+    inbox.take("1.xml", feed_of(None, {"R1": "1.00"}), START + 30 * DAY)
+    inbox.take("2.xml", feed_of(None, {"R1": "2.00"}))
+    yield Outcome("it is taken, and a later one", inbox.states(), {"1.xml": "applied", "2.xml": "applied"})
 
 
 def order_without_ledger(room: Room) -> Iterator[Outcome]:
@@ -315,7 +315,7 @@ def refused(room: Room) -> Iterator[Outcome]:
     yield Outcome("the other one alone", sum(text.startswith(b"Message") for text in machine.posted), 1)
     inbox = inbox_in(room, "unanswered")
     inbox.send("1.xml", feed_of(1, {"R1": "1.00"}))
-    machine = FakeMachine(inbox.disk, inbox.desk, inbox.clock, ("kill", "answered", 5))
+    machine = FakeMachine(inbox.disk, inbox.desk, inbox.clock, ("kill", "answered", 3))
     with contextlib.suppress(Killed):
         inbox.run(machine)
     inbox.decide("refuse", "1.xml")
@@ -355,7 +355,7 @@ def waived(room: Room) -> Iterator[Outcome]:
     inbox.work(lambda each: decide.waive(each, [1]))
     inbox.run()
     inbox.send("1.xml", feed_of(1, {"R1": "1.00"}))
-    machine = FakeMachine(inbox.disk, inbox.desk, inbox.clock, ("kill", "answered", 5))
+    machine = FakeMachine(inbox.disk, inbox.desk, inbox.clock, ("kill", "answered", 4))
     try:
         inbox.run(machine)
     except Killed:

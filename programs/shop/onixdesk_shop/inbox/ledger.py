@@ -135,7 +135,7 @@ class Ledger:
     def take(self, digest: str, name: str, ending: str, size: int, time: int, is_new: bool) -> File:
         """Writes a row for bytes that came in. Bytes that came before keep their state, unless they were refused: those
         are tried again, as new ones if `is_new`, or else in their old place, before others of their number."""
-        now = int(self.machine.now())
+        now, time = int(self.machine.now()), min(time, int(self.machine.now() * 1e9))
         with self.step():
             known = self.latest(digest)
             if not known:

@@ -246,5 +246,5 @@ def script(room: Room, name: str, *words: str) -> Ran:
 @needs("curl")
 def script_of_http(room: Room) -> Iterator[Outcome]:
     """The script compares each reply with the one written in it; a line reports its bad query."""
-    wanted = Ran(0, b"", b"onixdesk: bad-query: day is given 2 times\n")
+    wanted = Ran(0, b"", b"onixdesk: bad-query: day is given more than once\n")
     yield Outcome("http.sh: its replies", script(room, "examples/http.sh", str(free_port())), wanted)

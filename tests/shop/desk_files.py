@@ -45,10 +45,8 @@ def write(desk: FakeDesk, database: Path) -> None:
             connection.execute("INSERT INTO series VALUES (?, ?, ?, ?, ?, ?, ?)", row)
             for number, contents in series.had.items():
                 table = "applied" if number < series.next else "held"
-                text = (
-                    contents if isinstance(contents, str) else "".join(f"{','.join(record)}\n" for record in contents)
-                )
-                connection.execute(f"INSERT INTO {table} VALUES (?, ?, ?)", (name, number, text))
+                lines = [contents] if isinstance(contents, str) else [f"{','.join(record)}\n" for record in contents]
+                connection.execute(f"INSERT INTO {table} VALUES (?, ?, ?)", (name, number, "".join(lines)))
         connection.commit()
 
 
@@ -154,9 +152,8 @@ class Shop:
     def systemctl(self, words: list[str]) -> str:
         command, *units = words
         if command == "list-units":
-            return "".join(
-                f"{unit} loaded active running\n" for unit in LISTED if unit in self.started | {*LISTED[-2:]}
-            )
+            running = [unit for unit in LISTED if unit in self.started | {*LISTED[-2:]}]
+            return "".join(f"{unit} loaded active running\n" for unit in running)
         self.units.append(" ".join(words))
         if command == "stop":
             self.started -= {*units}

@@ -22,9 +22,8 @@ class Damaged(Exception):
 def entry_of(path: Path) -> IO[bytes]:
     """The one file in a zip, besides folders and what macOS adds."""
     archive = zipfile.ZipFile(path)
-    entries = [
-        entry for entry in archive.infolist() if not entry.is_dir() and not entry.filename.startswith("__MACOSX/")
-    ]
+    files = [entry for entry in archive.infolist() if not entry.is_dir()]
+    entries = [entry for entry in files if not entry.filename.startswith("__MACOSX/")]
     if len(entries) != 1:
         raise Damaged(f"it is a zip of {len(entries)} files, not of one")
     return archive.open(entries[0])

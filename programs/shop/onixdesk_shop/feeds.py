@@ -68,10 +68,8 @@ def read_by(machine: Machine, module: str, source: Path) -> bytes:
     """What a module of the package, run as a child, writes about a feed. BadEnd if it does not read all of it."""
     package = Path(__file__).parent
     modules = f"from {package.name} import feed_products, {module} as said"
-    start = (
-        f"import sys; sys.path[0] = {str(package.parent)!r}; {modules}; feed_products.read_input(said.TAGS, said.write)"
-    )
-    call = [sys.executable, "-EsSB", "-c", start]
+    start = f"import sys; sys.path[0] = {str(package.parent)!r}; {modules}"
+    call = [sys.executable, "-EsSB", "-c", f"{start}; feed_products.read_input(said.TAGS, said.write)"]
     try:
         return machine.run(call, text=pieces_of(source), seconds=READING_SECONDS).output
     except Damaged as damaged:

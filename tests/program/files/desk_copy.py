@@ -98,13 +98,6 @@ def counted(database: Path) -> Row:
     return tuple(found)
 
 
-def first_next(room: Room, database: Path) -> int:
-    """The next number of the series, as a desk that opens the copy says."""
-    ran = room.run("--db", database, "--existing", "gaps", "north")
-    found = re.fullmatch(rb"gaps,north,first=1,next=(\d+),greatest=\d*,held=0,missing=0\n", ran.output)
-    return int(found[1]) if found else -1
-
-
 def taken(room: Room, sender: Sender, place: int) -> str:
     """What is wrong with a copy that is taken now."""
     folder = room.path(f"taken-{place}")
@@ -121,7 +114,9 @@ def taken(room: Room, sender: Sender, place: int) -> str:
         return f"rows of no moment: {(as_of, messages, *prices)}"
     if not before <= messages <= after:
         return f"{messages} messages, where {before} were answered before and {after} sent at its end"
-    opened = first_next(room, database)
+    ran = room.run("--db", database, "--existing", "gaps", "north")
+    found = re.fullmatch(rb"gaps,north,first=1,next=(\d+),greatest=\d*,held=0,missing=0\n", ran.output)
+    opened = int(found[1]) if found else -1
     return "" if opened == as_of else f"the desk finds {opened} in place of {as_of}"
 
 

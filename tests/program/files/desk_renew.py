@@ -34,9 +34,8 @@ Agree,east,{EAST},1
 
 
 def message(parties: str, number: int, *lines: str) -> str:
-    return "".join(
-        f"{line}\n" for line in [f"Message,2,{parties},{number},1,,,", *lines, f"EndMessage,{len(lines) + 1}"]
-    )
+    records = [f"Message,2,{parties},{number},1,,,", *lines, f"EndMessage,{len(lines) + 1}"]
+    return "".join(f"{record}\n" for record in records)
 
 
 def product(reference: str, notification: str = "03", *, amount: str = "8") -> list[str]:
@@ -197,9 +196,8 @@ def and_its_inbox(room: Room) -> Iterator[Outcome]:
     shop = shop_in(room, "inbox")
     yield Outcome("renewed", (run(shop), standing(shop), shop.started), (0, RENEWED, {*UNITS}))
     shop.inbox.run()
-    yield Outcome(
-        "below the first number nothing is posted", (shop.inbox.lines, sorted(shop.inbox.series.had)), ([], [3, 5])
-    )
+    found = shop.inbox.lines, sorted(shop.inbox.series.had)
+    yield Outcome("below the first number nothing is posted", found, ([], [3, 5]))
     shop.inbox.send("again.xml", feed_of(2, {}))
     lines = [line.partition(":")[0] for line in shop.inbox.run()]
     yield Outcome("a repeat", (lines, sorted(shop.inbox.series.had)), (["had it already"], [3, 5]))

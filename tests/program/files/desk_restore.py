@@ -73,9 +73,8 @@ def what_came_since(room: Room) -> Iterator[Outcome]:
         yield Outcome("the status", (number, run(shop, copy)), (number, 0))
         yield Outcome("all feeds again, under their numbers", (has(shop), price(shop)), ([1, 2, 3, 4], "14.000"))
         refusals = [line for line in shop.written.splitlines() if line.startswith("onixdesk-inbox --refuse ")]
-        yield Outcome(
-            "each with its refusal", [line.rpartition("; ")[2] for line in refusals], ["2.xml", "3.xml", "4.xml"]
-        )
+        found = [line.rpartition("; ")[2] for line in refusals]
+        yield Outcome("each with its refusal", found, ["2.xml", "3.xml", "4.xml"])
         yield Outcome("what runs again", shop.started, {*UNITS})
         kept = [path for path in shop.database.parent.iterdir() if path.name.startswith("shop.db.")]
         yield Outcome("those of before", [has_of(path) for path in kept if "-wal" not in path.name], [[1, 2, 3, 4]])
@@ -160,9 +159,8 @@ def what_cannot_come_again(room: Room) -> Iterator[Outcome]:
     shop = shop_in(room, "posted")
     copy = four_days(shop)
     shop.inbox.series.had[5] = ()
-    yield Outcome(
-        "what comes while it asks", (run(shop, copy), has(shop), shop.started), (1, [1, 2, 3, 4, 5], {*UNITS})
-    )
+    found = run(shop, copy), has(shop), shop.started
+    yield Outcome("what comes while it asks", found, (1, [1, 2, 3, 4, 5], {*UNITS}))
     shop.write()
     yield Outcome("what no inbox has", (run(shop, copy), has(shop)), (1, [1, 2, 3, 4, 5]))
     yield Outcome("is said", "no inbox has number 5, which the copy lacks" in shop.lines[-1], True)
@@ -356,9 +354,8 @@ def another_identifier(room: Room) -> Iterator[Outcome]:
     yield Outcome("the next feed", (has(shop), price(shop)), ([1, 2, 3, 4, 5], "15.000"))
     yield Outcome("a copy from before", (run(shop, copy, before_correction=True), has(shop)), (1, [1, 2, 3, 4]))
     yield Outcome("says what is lacking", "north: the desk still lacks number 5" in shop.lines, True)
-    yield Outcome(
-        "and to make again", [line for line in shop.lines if line.startswith("has to be made again: ")] != [], True
-    )
+    found = [line for line in shop.lines if line.startswith("has to be made again: ")] != []
+    yield Outcome("and to make again", found, True)
     yield Outcome("corrected again", renamed(shop, "again"), 0)
     shop.inbox.run()
     yield Outcome("it has all", (has(shop), price(shop), shop.inbox.run()), ([1, 2, 3, 4, 5], "15.000", []))

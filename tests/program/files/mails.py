@@ -151,12 +151,10 @@ def lines_of_a_desk(room: Room) -> Iterator[Outcome]:
     """The lines of successful requests are left out, and by then the script is the desk."""
     said = ["listening 8080", "200", "202", "batch 0", "batch 2", "404", "fault", "503", "2000", "x 200"]
     room.write("said", "".join(f"{line}\n" for line in said).encode())
-    program = script(
-        room, "desk", f'echo $$ >"{room.path("process")}"; echo "$*" >&2; cat "{room.path("said")}"; exit 3'
-    )
-    process = subprocess.Popen(
-        [SERVE, program, "serve", "--port", "1 2"], stdout=subprocess.PIPE, stderr=subprocess.PIPE
-    )
+    text = f'echo $$ >"{room.path("process")}"; echo "$*" >&2; cat "{room.path("said")}"; exit 3'
+    program = script(room, "desk", text)
+    words = [str(SERVE), str(program), "serve", "--port", "1 2"]
+    process = subprocess.Popen(words, stdout=subprocess.PIPE, stderr=subprocess.PIPE)
     output, errors = process.communicate(timeout=SECONDS)
     wanted = ["listening 8080", "batch 2", "404", "<4>fault", "<3>503", "2000", "x 200"]
     yield Outcome("the lines of a desk", output.decode().splitlines(), wanted)

@@ -209,7 +209,6 @@ def of_another_series(room: Room) -> Iterator[Outcome]:
         inbox.series.parties = (*SENDER, *ADDRESSEE)
         inbox.send("1.xml", feed_of(1, {"R1": "1.00"}))
         said = [line.rpartition("refused: ")[2] for line in inbox.run()]
-        yield Outcome(
-            f"{number}: refused", said, ["it went into the series other, which has its sender and addressee; 1.xml"]
-        )
+        wanted = ["it went into the series other, which has its sender and addressee; 1.xml"]
+        yield Outcome(f"{number}: refused", said, wanted)
         yield Outcome(f"{number}: once", (inbox.run(), inbox.states()), ([], {"1.xml": "refused"}))

@@ -200,14 +200,12 @@ def sftp_is_copied(room: Room) -> Iterator[Outcome]:
         times = [round(path.stat().st_mtime) for path in (fetch.files / "a.xml", fetch.incoming / "a.xml")]
         yield Outcome("fetch: the server's time", times[1], times[0])
         fetch.offer("a.xml", "new", HOUR / 2)
-        yield Outcome(
-            "fetch: one changed", (fetch.run().status, sorted(fetch.came().values())), (0, ["new", "odd", "one", "two"])
-        )
+        found = fetch.run().status, sorted(fetch.came().values())
+        yield Outcome("fetch: one changed", found, (0, ["new", "odd", "one", "two"]))
         fetch.take()
         fetch.offer("old.xml", "old", 40 * DAY)
-        yield Outcome(
-            "fetch: older than the last success", (fetch.run().status, b"old.xml" in fetch.came()), (0, False)
-        )
+        found = fetch.run().status, b"old.xml" in fetch.came()
+        yield Outcome("fetch: older than the last success", found, (0, False))
 
 
 def sftp_is_moved(room: Room) -> Iterator[Outcome]:
@@ -273,9 +271,8 @@ def https_without_times(room: Room) -> Iterator[Outcome]:
             fetch.offer(name, "old")
         ran = fetch.run()
         both = {b"a.xml": "old", b"c.xml": "old"}
-        yield Outcome(
-            "fetch: it lies about a size", (ran.status, fetch.came(), b"b.xml" in ran.errors), (1, both, True)
-        )
+        found = ran.status, fetch.came(), b"b.xml" in ran.errors
+        yield Outcome("fetch: it lies about a size", found, (1, both, True))
         (fetch.files / "b.xml").unlink()
         fetch.offer("c.xml", "new")
         ran = fetch.run()

@@ -42,9 +42,8 @@ def order(room: Room) -> Iterator[Outcome]:
     yield Outcome("older than the last one", found, ("quarantined", "10.000"))
     inbox.decide("refuse", "quarantined")
     lines = inbox.take("twice.xml", feed_of(None, {"R1": "10.00"}))
-    yield Outcome(
-        "the same bytes", (len(inbox.series.had), [line.partition(":")[0] for line in lines]), (2, ["had it already"])
-    )
+    found = len(inbox.series.had), [line.partition(":")[0] for line in lines]
+    yield Outcome("the same bytes", found, (2, ["had it already"]))
 
 
 def lost_answer(room: Room) -> Iterator[Outcome]:
@@ -115,9 +114,8 @@ def numbers(room: Room) -> Iterator[Outcome]:
     yield Outcome("refused, it stays at the desk", price_of(inbox, "R1"), "3.000")
     inbox.begin_desk(first=500)
     inbox.run()
-    yield Outcome(
-        "and is waived once the desk lacks it", (inbox.series.had[502], price_of(inbox, "R1")), (WAIVED, "2.000")
-    )
+    found = inbox.series.had[502], price_of(inbox, "R1")
+    yield Outcome("and is waived once the desk lacks it", found, (WAIVED, "2.000"))
     inbox.decide("again", "a.xml")
     inbox.run()
     yield Outcome("taken again", (sorted(inbox.series.had), price_of(inbox, "R1")), ([500, 501, 502, 503], "1.000"))
@@ -212,9 +210,8 @@ def renewed(room: Room) -> Iterator[Outcome]:
     inbox.send("2-other.xml", feed_of(2, {"R1": "9.00"}))
     inbox.take("0.xml", feed_of(4, {"R1": "4.00"}))
     states = inbox.states()
-    yield Outcome(
-        "the same bytes, the same contents", (states["1-again.xml"], states["2-resent.xml"]), ("applied", "had")
-    )
+    found = states["1-again.xml"], states["2-resent.xml"]
+    yield Outcome("the same bytes, the same contents", found, ("applied", "had"))
     yield Outcome("others", (states["2-other.xml"], states["0.xml"]), ("refused", "applied"))
     yield Outcome("nothing below is posted", sorted(inbox.series.had), [3, 4])
 

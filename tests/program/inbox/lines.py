@@ -60,10 +60,8 @@ def of_a_refused_file(room: Room) -> Iterator[Outcome]:
     inbox = inbox_in(room, "refused")
     said = inbox.take("-b\n.xml", b"<cut")
     mark = inbox.files()[0].mark
-    wanted = (
-        f"onixdesk-inbox --dismiss {mark} north; refused: line 1, column 1: the XML is not well-formed; '-b\\n.xml'"
-    )
-    yield Outcome("a refused file", said, [wanted])
+    why = "line 1, column 1: the XML is not well-formed"
+    yield Outcome("a refused file", said, [f"onixdesk-inbox --dismiss {mark} north; refused: {why}; '-b\\n.xml'"])
     yield Outcome("counted", inbox.shown()["refused"], 1)
     inbox.decide("dismiss", "refused")
     inbox.run()

@@ -27,9 +27,8 @@ def ends(_room: Room) -> Iterator[Outcome]:
     def run(script: str, **more: Any) -> Callable[[], object]:
         return lambda: machine.run(["sh", "-c", script], (0, 1), **more)
 
-    yield Outcome(
-        "known", machine.run(["sh", "-c", "cat; echo told >&2; exit 1"], (0, 1), b"given")[:], (1, b"given", b"told\n")
-    )
+    found = machine.run(["sh", "-c", "cat; echo told >&2; exit 1"], (0, 1), b"given")[:]
+    yield Outcome("known", found, (1, b"given", b"told\n"))
     yield Outcome("another", why(run("echo no >&2; exit 3")), "sh ended with status 3: no")
     yield Outcome("killed", why(run("kill -9 $$")), "sh was killed by signal 9")
     yield Outcome("too long", why(run("sleep 60", seconds=0.1, text=[b"y" * 999_999])), "sh takes too long")

@@ -103,9 +103,7 @@ def replace_older(inbox: Inbox, file: File) -> None:
     more."""
     if not inbox.settings.says_all(file.name):
         return
-    for older in inbox.ledger.files(
-        "state IN (?, ?) AND time < ? AND ending <> '.csv'", State.QUARANTINED, State.NEW, file.time
-    ):
+    for older in inbox.ledger.files("state IN ('quarantined', 'new') AND time < ? AND ending <> '.csv'", file.time):
         inbox.ledger.set_state(older, State.REPLACED, f"the full file {file.mark} came after it")
 
 

@@ -91,14 +91,12 @@ def feed_of(inbox: Inbox, file: File, gaps: Gaps, words: list[str], terms: bytes
             raise Refusal(f"it has more than {MOST_BYTES} bytes of records")
         texts, said = [inbox.machine.read(source)], Said()
     else:
-        number = []
+        given = words
         if inbox.settings.gives_number(file.ending):
             kept = [row.number for row in inbox.ledger.messages_of(file) if row.state != State.RETURNED]
             first = kept[0] if kept else inbox.ledger.next_number(gaps, inbox.settings.parts)
-            number = ["--number", str((first - 1) // inbox.settings.parts + 1)]
-        texts, said = convert(
-            inbox.machine, inbox.places.program, source, [*words, *number], terms, inbox.folder / WORK, seconds
-        )
+            given = [*words, "--number", str((first - 1) // inbox.settings.parts + 1)]
+        texts, said = convert(inbox.machine, inbox.places.program, source, given, terms, inbox.folder / WORK, seconds)
     return Feed(file, [message_of(inbox, text) for text in texts], words, terms, said)
 
 
@@ -212,9 +210,8 @@ def is_below_and_same(inbox: Inbox, row: Row, message: Message, gaps: Gaps) -> b
     known = inbox.ledger.text(row.number) if row.has_text else b""
     if [each.records for each in products_of(known)] == [each.records for each in products_of(message.text)]:
         return True
-    raise Refusal(
-        f"another message of number {message.number} was taken before; a correction needs a number of its own"
-    )
+    why = f"another message of number {message.number} was taken before"
+    raise Refusal(f"{why}; a correction needs a number of its own")
 
 
 def retry_refused(inbox: Inbox, gaps: Gaps) -> None:

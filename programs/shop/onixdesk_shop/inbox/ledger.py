@@ -193,10 +193,9 @@ class Ledger:
     def last_taken(self) -> int | None:
         """The time of the latest file of which the desk has, may have or had something, at a number that we gave."""
         query = "SELECT max(time) FROM file JOIN message ON message.file = file.id WHERE ending <> '.csv'"
+        stands = "message.state IN ('ready', 'posted', 'held', 'applied')"
         is_kept = "message.state = 'refused' AND (answer LIKE 'held,%' OR answer LIKE 'applied,%')"
-        found: int | None = self.value(
-            f"{query} AND (message.state IN ('ready', 'posted', 'held', 'applied') OR {is_kept})"
-        )
+        found: int | None = self.value(f"{query} AND ({stands} OR {is_kept})")
         return found
 
     def count_waiting(self, gaps: Gaps | None) -> int:

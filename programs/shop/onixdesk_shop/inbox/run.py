@@ -75,9 +75,8 @@ def tell_waiting(inbox: Inbox, gaps: Gaps | None) -> None:
     since = inbox.ledger.value("SELECT min(at) FROM message WHERE state = 'held'")
     if gaps and since is not None and inbox.machine.now() - since > DAY:
         command = f"onixdesk-inbox waive {inbox.series} {gaps.next} (or have it sent again)"
-        inbox.tell_once(
-            f"waits {gaps.next} {since}", ERROR, f"{command}; the series waits for number {gaps.next} for a day"
-        )
+        said = f"{command}; the series waits for number {gaps.next} for a day"
+        inbox.tell_once(f"waits {gaps.next} {since}", ERROR, said)
     if inbox.is_silent():
         inbox.tell_once("silent", ERROR, f"nothing came for {inbox.settings.silent_days} days but empty files")
     else:

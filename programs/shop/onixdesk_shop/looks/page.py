@@ -56,9 +56,8 @@ def of_feed(sample: Sample) -> Iterator[str]:
     yield f"number: {sample.number or 'none'}; messages: {len(sample.messages)}"
     yield from section_of("Products by NotificationType", counted(sample.types))
     yield from section_of("Suppliers by SupplyDetails", counted(sample.suppliers))
-    yield from section_of(
-        "Prices by type and currency", counted({" ".join(kind): n for kind, n in sample.prices.items()})
-    )
+    prices = {" ".join(kind): number for kind, number in sample.prices.items()}
+    yield from section_of("Prices by type and currency", counted(prices))
     yield from section_of("Discount codes by prices", counted({in_words(code): n for code, n in sample.codes.items()}))
     yield from section_of("What the converter says", counted(sample.said.reasons))
 

@@ -6,7 +6,7 @@ from dataclasses import replace
 from itertools import product
 from typing import Any
 
-from onixdesk_shop.inbox import report
+from onixdesk_shop.inbox import decide, report
 from onixdesk_shop.settings import NEXT
 from tests.program.inbox.files import inbox_in, price_of
 from tests.program.room import Room
@@ -104,6 +104,19 @@ def corrected(room: Room) -> Iterator[Outcome]:
     inbox.begin_desk()
     inbox.run()
     yield Outcome("over a restored desk", price_of(inbox, "R1"), "2.000")
+
+
+def refused_half(room: Room) -> Iterator[Outcome]:
+    """A file that waited for an agreement keeps no number once a person refused it, not even a waived one."""
+    inbox = inbox_in(room, "half", words=("--parts", "2"))
+    inbox.work(lambda each: decide.waive(each, [1]))
+    inbox.series.parties = (*SENDER, *ADDRESSEE)
+    inbox.take("1.xml", feed_of(1, {"R1": "1.00", "R2": "1.00"}))
+    inbox.decide("refuse", "1.xml")
+    inbox.series.parties = (*SENDER, "", "")
+    inbox.take("other.xml", feed_of(1, {"R1": "2.00", "R2": "2.00"}))
+    found = inbox.states(), price_of(inbox, "R2")
+    yield Outcome("the other part of the next file", found, ({"1.xml": "rejected", "other.xml": "refused"}, "2.000"))
 
 
 def older(room: Room) -> Iterator[Outcome]:

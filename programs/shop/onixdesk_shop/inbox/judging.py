@@ -152,12 +152,13 @@ def look_at(inbox: Inbox, feed: Feed, gaps: Gaps) -> None:
 
 def final_row(inbox: Inbox, file: File, message: Message) -> Row | None:
     """The message that another file has for good at a number. One that waits for an agreement keeps its number too, but
-    from none with another addressee."""
+    from none with another addressee, and not once a person refused its file."""
     row = inbox.ledger.row(message.number)
     if not row or row.file == file.id:
         return None
     if row.state == State.REFUSED and row.answer == "refused,unknown-series":
-        is_kept = header_of(inbox.ledger.text(row.number)).addressee == header_of(message.text).addressee
+        is_waiting = inbox.ledger.file(row.file).state != State.REJECTED
+        is_kept = is_waiting and header_of(inbox.ledger.text(row.number)).addressee == header_of(message.text).addressee
     else:
         is_kept = row.state in STANDING or row.state == State.REFUSED and row.was_taken
     return row if is_kept else None

@@ -203,13 +203,16 @@ def each_night(room: Room) -> Iterator[Outcome]:
     left = sorted(path.name for path in shop.copies.iterdir())[:3]
     yield Outcome("corrections of a day push no night out", left, [*OLD[1:], corrected[3]])
     unread = shop.inbox.places.inboxes / "east/ledger.db"
-    unread.parent.mkdir()
+    unread.parent.joinpath("store/file").mkdir(parents=True)
+    before = {*shop.copies.iterdir()}
     sound = unread.parent.with_name("north").joinpath(unread.name).read_bytes()
-    for data in b"no database" * 1000, sound[:-4096] + b"\xff" * 4096:
-        unread.write_bytes(data)
+    for data in None, b"no database" * 1000, sound[:-4096] + b"\xff" * 4096, b"":
+        if data is not None:
+            unread.write_bytes(data)
         status, copied = run(shop, *words), Path(shop.written.partition(": ")[0], "ledgers")
         found = status, [path.name for path in copied.iterdir()], shop.lines[0].startswith(f"{unread}: ")
-        yield Outcome(f"a ledger that begins with {data[:6]!r}", found, (1, ["north.db"], True))
+        yield Outcome(f"a ledger that begins with {data and data[:6]!r}", found, (1, ["north.db"], True))
+    yield Outcome("no earlier copy goes", before <= {*shop.copies.iterdir()}, True)
 
 
 def two_in_a_second(room: Room) -> Iterator[Outcome]:

@@ -223,12 +223,21 @@ def ledgers(room: Room) -> Iterator[Outcome]:
     shop.inbox.run()
     run(shop, copy, gaps=True)
     yield Outcome("where one has no file", [*shop.inbox.states()], ["1.xml"])
-    shop.inbox.ledger.unlink()
     damage = "UPDATE sqlite_schema SET rootpage = 2 WHERE name = 'decision_by_subject'"
     with closing(sqlite3.connect(copy / f"ledgers/{SERIES}.db")) as ledger:
         ledger.executescript(f"PRAGMA writable_schema=ON; {damage};")
-    found = run(shop, copy, gaps=True) > 0, shop.inbox.ledger.exists()
-    yield Outcome("where the copy's is not sound", found, (True, False))
+    shop.inbox.ledger.unlink()
+    for left in (shop.inbox.files(), None):
+        if left is None:
+            shop.inbox.ledger.unlink()
+        found = run(shop, copy, gaps=True) > 0, shop.inbox.files() if shop.inbox.ledger.exists() else None
+        yield Outcome("where the copy's is not sound", found, (True, left))
+    (copy / f"ledgers/{SERIES}.db").unlink()
+    (shop.inbox.store / "1.xml").touch()
+    for name in ("where neither has one", "where the present one has no bytes"):
+        status, line = run(shop, copy, gaps=True), f"{shop.inbox.ledger} is gone"
+        yield Outcome(name, (status, line in "".join(shop.lines)), (1, True))
+        shop.inbox.ledger.touch()
 
 
 def log_of_a_lost_ledger(room: Room) -> Iterator[Outcome]:

@@ -10,6 +10,7 @@ from onixdesk_shop.copies.keeping import CORRECTIONS, UNFINISHED, keep_latest, n
 from onixdesk_shop.desk_files import check
 from onixdesk_shop.ends import parser_of
 from onixdesk_shop.faults import DONE, FAILED, Fault
+from onixdesk_shop.inbox.ledger import is_lost
 from onixdesk_shop.lines import ERROR
 from onixdesk_shop.machine import Machine
 from onixdesk_shop.places import LEDGER, LEDGERS
@@ -36,13 +37,16 @@ def command_line() -> argparse.ArgumentParser:
 
 def copy_ledgers(machine: Machine, inboxes: Path, target: Path) -> int:
     """Copies each inbox's ledger after the desk: so the ledgers have the text of each message in the copy. Returns the
-    status: a ledger that cannot be read is reported, and left out."""
+    status: a ledger that cannot be read, or is gone, is reported, and left out, and then no earlier copy goes."""
     status = DONE
     machine.make_folder(target)
-    for ledger in machine.paths(inboxes, f"*/{LEDGER}"):
-        copy = target / f"{ledger.parent.name}.db"
+    for folder in machine.paths(inboxes, "*/"):
+        ledger, copy = folder / LEDGER, target / f"{folder.name}.db"
         try:
-            machine.backup(ledger, copy)
+            if is_lost(machine, folder):
+                raise sqlite3.DatabaseError("it is gone")
+            if machine.exists(ledger):
+                machine.backup(ledger, copy)
         except sqlite3.Error as error:
             machine.remove(copy)
             machine.tell(ERROR, f"{ledger}: {error}; the copy lacks this ledger")
@@ -62,7 +66,7 @@ def work(machine: Machine, options: argparse.Namespace) -> int:
             place, found, status = copy_by(machine, new, folder, options)
         finally:
             machine.remove_tree(new)
-        if options.keep:
+        if options.keep and status == DONE:
             keep_latest(machine, folder, options.keep, place)
     machine.write(f"{place}: as of {time.strftime('%F %T UTC', time.gmtime(found.moment // 1_000_000_000))}\n")
     tell_room(machine, options.file, found)

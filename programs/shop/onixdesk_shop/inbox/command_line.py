@@ -13,7 +13,7 @@ from onixdesk_shop.ends import parser_of, program_of
 from onixdesk_shop.faults import BadCall, Fault
 from onixdesk_shop.inbox import decide, report, run, show
 from onixdesk_shop.inbox.context import Inbox, Places
-from onixdesk_shop.inbox.ledger import Ledger
+from onixdesk_shop.inbox.ledger import Ledger, is_lost
 from onixdesk_shop.lines import token
 from onixdesk_shop.machine import Machine
 from onixdesk_shop.places import DESK_JSON, INBOX_SETTINGS, INBOXES, INCOMING, LEDGER, PROGRAM, RULES, STATE, STORE
@@ -114,8 +114,7 @@ def opened(machine: Machine, options: argparse.Namespace) -> Iterator[Inbox]:
         become_owner(folder)
     machine.make_folder(folder)
     machine.make_folder(folder / STORE)
-    has_ledger = machine.exists(folder / LEDGER) and machine.entry(folder / LEDGER).size
-    if machine.entries(folder / STORE) and not has_ledger:
+    if is_lost(machine, folder):
         raise Fault(f"desk-restore COPY (puts it back), or empty {folder / STORE}; {folder / LEDGER} is gone")
     with machine.lock(folder), contextlib.closing(Ledger(machine, folder / LEDGER)) as ledger:
         desk = Desk(machine, settings.batches)

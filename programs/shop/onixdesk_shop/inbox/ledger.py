@@ -13,6 +13,7 @@ from typing import Any, NamedTuple
 from onixdesk_shop.desk import Gaps
 from onixdesk_shop.machine import Machine
 from onixdesk_shop.messages import Product, header_of, products_of
+from onixdesk_shop.places import LEDGER, STORE
 
 SCHEMA = Path(__file__).with_name("ledger.sql")
 
@@ -94,6 +95,12 @@ class Message:
 STANDING = State.READY, State.POSTED, State.HELD, State.APPLIED
 
 ROW = "SELECT number, file, digest, deletions, state, answer, text IS NOT NULL FROM message"
+
+
+def is_lost(machine: Machine, folder: Path) -> bool:
+    """Whether an inbox has files, and no ledger any more: SQLite takes one without bytes for a new one."""
+    size = machine.entry(folder / LEDGER).size if machine.exists(folder / LEDGER) else 0
+    return not size and bool(machine.paths(folder / STORE, "*"))
 
 
 class Ledger:

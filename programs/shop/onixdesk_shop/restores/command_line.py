@@ -5,9 +5,10 @@ from pathlib import Path
 
 from onixdesk_shop.ends import parser_of
 from onixdesk_shop.faults import DONE, FAILED, Failed, Fault
+from onixdesk_shop.inbox.ledger import is_lost
 from onixdesk_shop.lines import ERROR, WARNING
 from onixdesk_shop.machine import Machine
-from onixdesk_shop.places import DESK_FILE, INBOX_SETTINGS, PROGRAM
+from onixdesk_shop.places import DESK_FILE, INBOX_SETTINGS, LEDGER, PROGRAM
 from onixdesk_shop.restores.inboxes import inboxes_in, wait_for_all
 from onixdesk_shop.restores.restoring import Restore
 from onixdesk_shop.units import DESK, Units
@@ -68,4 +69,8 @@ def status_of(machine: Machine, run: Restore) -> int:
         return FAILED
     inboxes = inboxes_in(machine, run.inboxes_folder, run.options.settings)
     has_all = run.work.is_started and wait_for_all(machine, inboxes, run.planned, run.work.started) and run.has_all
+    for folder in machine.paths(run.inboxes_folder, "*/"):
+        if is_lost(machine, folder):
+            machine.tell(ERROR, f"desk-restore COPY (one that has it); {folder / LEDGER} is gone")
+            has_all = False
     return DONE if has_all else FAILED

@@ -6,7 +6,7 @@ from pathlib import Path
 
 from onixdesk_shop.desk import Desk, Gaps
 from onixdesk_shop.faults import BadCall, Fault
-from onixdesk_shop.inbox.ledger import File, Ledger, State
+from onixdesk_shop.inbox.ledger import File, Ledger, State, is_lost
 from onixdesk_shop.lines import ERROR, ranges, token
 from onixdesk_shop.machine import Machine
 from onixdesk_shop.places import BATCHES, LEDGER
@@ -92,7 +92,8 @@ class Inbox:
 
 def inboxes_in(machine: Machine, folder: Path, settings: Path) -> list[Inbox]:
     """The inboxes that have a ledger."""
-    return [Inbox(machine, path.parent.name, path, settings) for path in machine.paths(folder, f"*/{LEDGER}")]
+    found = machine.paths(folder, f"*/{LEDGER}")
+    return [Inbox(machine, path.parent.name, path, settings) for path in found if not is_lost(machine, path.parent)]
 
 
 def wait_for_inbox(inbox: Inbox, numbers: list[int], goes_on: bool) -> bool:

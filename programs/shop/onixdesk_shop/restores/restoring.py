@@ -110,23 +110,19 @@ class Restore:
         return said, lost
 
     def inboxes(self) -> list[Inbox]:
-        """The present inboxes, and those whose ledgers only the copy has."""
+        """The present inboxes, and those that get the copy's ledger: they have none, or one without a file."""
         machine, options = self.machine, self.options
-        found = inboxes_in(machine, self.inboxes_folder, options.settings)
-        known = {inbox.series for inbox in found}
-        for name in self.ledgers_of_copy():
-            if name not in known:
-                file = self.work.folder / f"{name}.db"
+        found = {inbox.series: inbox for inbox in inboxes_in(machine, self.inboxes_folder, options.settings)}
+        for kept in machine.paths(options.copy / LEDGERS, "*.db"):
+            name, file = kept.stem, self.work.folder / kept.name
+            if name not in found or found[name].is_unused():
                 if not machine.exists(file):
-                    machine.copy(options.copy / LEDGERS / f"{name}.db", file)
+                    machine.copy(kept, file)
                 with machine.reading(file) as ledger:
                     if (wrong := ledger.execute("PRAGMA integrity_check").fetchone()[0]) != "ok":
                         raise Failed(f"{options.copy}: its ledger of {name} is not sound: {cut(wrong)}")
-                found.append(Inbox(machine, name, file, options.settings))
-        return found
-
-    def ledgers_of_copy(self) -> list[str]:
-        return [path.stem for path in self.machine.paths(self.options.copy / LEDGERS, "*.db")]
+                found[name] = Inbox(machine, name, file, options.settings)
+        return [*found.values()]
 
     def is_wanted(self, is_told: bool) -> bool:
         """Says what comes, and asks; raises Failed if something is lost and nobody allowed it."""
@@ -183,16 +179,14 @@ class Restore:
 
     def put_ledgers_back(self) -> None:
         """Puts a ledger of the copy in place if there is none, or one of an inbox that has never taken a file."""
-        machine, options = self.machine, self.options
-        for name in self.ledgers_of_copy():
-            folder = self.inboxes_folder / name
-            present = Inbox(machine, name, folder / LEDGER, options.settings)
-            if not machine.exists(self.inboxes_folder) or machine.exists(present.file) and not present.is_unused():
-                continue
+        machine = self.machine
+        found = self.inboxes() if machine.exists(self.inboxes_folder) else []
+        for file in [inbox.file for inbox in found if inbox.file.parent == self.work.folder]:
+            name, folder = file.stem, self.inboxes_folder / file.stem
             machine.make_folder(folder)
             machine.own(folder, self.inboxes_folder)
             new = folder / f".{LEDGER}"
-            machine.copy(options.copy / LEDGERS / f"{name}.db", new)
+            machine.copy(file, new)
             machine.own(new, self.inboxes_folder)
             # The log of a lost ledger would be replayed into this one.
             machine.remove(log_of(folder / LEDGER))

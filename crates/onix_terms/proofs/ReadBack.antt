@@ -1,4 +1,4 @@
--- Numbers are read back from their digits, and a code or a name is its text.
+-- Numbers are read back from their digits, and a code is its text.
 use Rattle.std.proofs.Common.{◌≡◌, ℕ, ◌<◌, ◌≤◌, ◌∙◌, List, Bool, true, Option, Some, None, ap, arith, length, lit<}
 use Rattle.std.specs.Prelude.{◌&&◌, ◌==◌, nat_le, decimal}
 use Rattle.std.specs.List.{list_all}
@@ -11,7 +11,6 @@ use Rattle.onix_terms.specs.Number.{number_of}
 use Rattle.onix_terms.specs.Positive.{positive_from, positive_of}
 use Rattle.onix_terms.specs.Quantity.{quantity_of}
 use Rattle.onix_terms.specs.Code.{fixed_text}
-use Rattle.onix_terms.specs.SeriesName.{is_series_name, series_name_of}
 use Rattle.onix_terms.proofs.DigitTexts.{digits-decimal}
 
 -- a number that few digits write is read where it is positive and below the bound
@@ -29,6 +28,3 @@ quantity-decimal n some small = few-digits 6 1_000_000 n (decimal n) (length-dec
 
 pub fixed-itself : (allowed : ℕ → Bool) (size : ℕ) (text code : List ℕ) → fixed_text allowed size text ≡ Some code → text ≡ code
 fixed-itself allowed size text code e = (cond_some ((length text == size) && list_all allowed text) text code e).1
-
-pub name-itself : (text name : List ℕ) → series_name_of text ≡ Some name → text ≡ name
-name-itself text name e = (cond_some (is_series_name text) text name e).1

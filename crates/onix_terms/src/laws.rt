@@ -1,12 +1,10 @@
 //! What the definitions of the terms come to. Each law is the contract of a function that does
 //! nothing.
 
-ghost use Rattle.std.specs.Prelude.{◌≡◌, ◌↔◌, ◌<◌, ◌≤◌, Bool, true, Contains, List, length, ℕ, ℤ, Some, decimal};
+ghost use Rattle.std.specs.Prelude.{◌≡◌, ◌↔◌, ◌<◌, ◌≤◌, true, Contains, List, length, ℕ, ℤ, Some, decimal};
 ghost use Rattle.std.specs.List.{list_all};
 ghost use Rattle.onix_terms.specs.Amount.{amount_of, amount_text};
-ghost use Rattle.onix_terms.specs.Code.{fixed_text};
 ghost use Rattle.onix_terms.specs.Digits.{digits_of};
-ghost use Rattle.onix_terms.specs.SeriesName.{series_name_of};
 ghost use Rattle.onix_terms.specs.Day.{IsDayNumber, day_of, day_text};
 ghost use Rattle.onix_terms.specs.Number.{number_of};
 ghost use Rattle.onix_terms.specs.Quantity.{quantity_of};
@@ -18,13 +16,6 @@ pub fn number_reads_back()
     ensures digits { (n : ℕ) → n < 1_000_000_000 → digits_of (decimal n) ≡ Some n }
     ensures number { (n : ℕ) → 0 < n → n < 1_000_000_000 → number_of (decimal n) ≡ Some n }
     ensures quantity { (n : ℕ) → 0 < n → n < 1_000_000 → quantity_of (decimal n) ≡ Some n }
-{}
-
-/// Texts that are values are read as themselves.
-pub fn texts_are_themselves()
-    ensures fixed { (allowed : ℕ → Bool) (size : ℕ) (text code : List ℕ)
-        → fixed_text allowed size text ≡ Some code → text ≡ code }
-    ensures name { (text name : List ℕ) → series_name_of text ≡ Some name → text ≡ name }
 {}
 
 /// The text of an amount is read as that amount.

@@ -4,7 +4,7 @@
 ghost use Rattle.std.specs.Prelude.{◌≡◌, Err};
 ghost use Rattle.desk_tables.specs.Calls.{Adds, AddsMade, Asks, Changes};
 ghost use Rattle.desk_tables.specs.RecordAnswers.{AreArticlesInOrder, AreMinimums, AreOffersInOrder, ArePricesInOrder, ArePricesWith, AreRising};
-ghost use Rattle.desk_tables.specs.RecordChanges.{has_record, with_article, with_minimum, with_new_record, with_offer, with_price, with_price_and_minimum, with_record, without_articles};
+ghost use Rattle.desk_tables.specs.RecordChanges.{has_record, with_article, with_minimum, with_offer, with_price, with_price_and_minimum, with_record, without_articles};
 ghost use Rattle.desk_tables.specs.RecordRows.{minimum_row, offer_row, price_row};
 ghost use Rattle.desk_tables.specs.Rows.{AreSeriesInOrder};
 
@@ -14,7 +14,7 @@ use crate::prices::{
     MINIMUM_ROWS, MinimumRow, PRICE_ROWS, PUT_MINIMUM, PUT_PRICE, PriceRow, all_prices,
     minimum_row_values, price_row_values,
 };
-use crate::records::{HAS_RECORD, PUT_RECORD, PUT_RECORD_IF_NEW};
+use crate::records::{HAS_RECORD, PUT_RECORD_IF_NEW};
 use crate::rows::written::territory_texts;
 use crate::series::{SERIES_ROWS, SeriesRow};
 use crate::work::Work;
@@ -29,15 +29,6 @@ impl<S: Alter> Work<'_, S> {
             self.old self.new result }
     {
         self.select(SERIES_ROWS, &[])
-    }
-
-    /// Adds a record. `Unusable` where the series has it, or if no series has that name.
-    pub fn add_record(&mut self, series: &SeriesName, reference: &str) -> Result<(), StoreFault>
-        ensures { Adds S.Store
-            (with_new_record (record { series = series.now; reference = reference.now }))
-            self.old self.new result }
-    {
-        self.run(PUT_RECORD, params![series.as_str(), reference])
     }
 
     /// Sees to it that the series has the record: adds its row, or nothing where it is there.

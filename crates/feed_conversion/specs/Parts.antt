@@ -88,8 +88,8 @@ references_in part = flat_map (λ p. references_of p.product.below) part
 -- What came of the elements of a message: its products, each once and in order, stand in its parts,
 -- one after the other and as many as there is room for, each in its right variant, and as many of
 -- them are wrong as are counted: one that is in no part is. The parts that are left over have none.
--- The desk takes each part, the first as the message of the number in the heading and each later one
--- as that of the next, with just its products.
+-- The desk takes each part, the first as the message of the number in the heading and each later
+-- one as that of the next, with just its products.
 pub record AreParts (o : Options) (nodes : Nodes) (made : Converted) : Type 0 where
   pub header : Composite
   pub counts : header_in nodes ≡ Some header

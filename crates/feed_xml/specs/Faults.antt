@@ -29,8 +29,8 @@ IsOfReading Read = Unit {0}
 IsOfReading Memory = Unit {0}
 IsOfReading other = ⊥
 
--- the text of the bytes, where those are told, begins with tokens, as a document may, and there this
--- holds
+-- the text of the bytes, where those are told, begins with tokens, as a document may, and there
+-- this holds
 abbrev pub GoesTo : Option (List ℕ) → Bound → Type 0
 GoesTo bytes Limit = (tokens : List Token) × OfText (Meets Limit tokens) bytes
 

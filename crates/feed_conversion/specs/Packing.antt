@@ -35,8 +35,8 @@ pub record Settings : Type 0 where
   pub allowed : Allowed
 
 -- What the products so far have come to: how many parts are full, the records of products in the
--- part behind them, the place of the first product for which there is no part, the texts of the
--- full parts, and what is counted of the products.
+-- part behind them, whether there is a product for which there is no part, the texts of the full
+-- parts, and what is counted of the products.
 pub record Packing : Type 0 where
   pub full : ℕ
   pub begun : Records
@@ -55,8 +55,8 @@ no_packing =
 abbrev pub with_part : ℕ → ℕ → List ℕ → List (List ℕ) → List (List ℕ)
 with_part most full text parts = if nat_lt full most then parts ++ text ∷ [] else parts
 
--- the place of the first product for which there is no part, where a product at this place begins
--- the part behind so many
+-- whether there is a product for which there is no part, where a product begins the part behind so
+-- many
 abbrev pub beyond_at : ℕ → ℕ → Option ⊤ → ⊤ → Option ⊤
 beyond_at most full earlier place =
     option_or earlier (if nat_lt full most then None else Some place)
@@ -79,8 +79,8 @@ module _ (t : Settings) (w : Packing) where
     parts = with_begun;
   }
 
-  -- records of a product at this place go into the part that was begun where that has room, else
-  -- into the next; nothing, where that has no room for them either
+  -- records of a product go into the part that was begun where that has room, else into the next;
+  -- nothing, where that has no room for them either
   abbrev pub packed : ⊤ → Records → Option Packing
   packed place records =
       if fits (t.first w.full) (w.begun ++ records)

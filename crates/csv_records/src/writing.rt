@@ -1,24 +1,75 @@
 //! The text of records.
 
-ghost use Rattle.std.specs.Prelude.{◌≡◌, [], IfOk, OnOk, map};
+ghost use Rattle.std.specs.Prelude.{◌≡◌, ◌++◌, [], IfOk, OnOk};
 ghost use Rattle.std.specs.String.{string_bytes};
+ghost use Rattle.csv.specs.Writing.{default_writer, escaped, field_text, needs_quotes, row_body, row_text};
 ghost use Rattle.csv_records.specs.RecordTexts.{records_text};
 
 use crate::record::Record;
 use crate::records::Records;
-use csv::WriterBuilder;
 use std::alloc::{AllocError, Global};
 
-// Puts a record's fields as bytes into a list, in place of what it held.
-fn fill_bytes<'a>(from: &Record<'a>, list: &mut Vec<&'a [u8]>) -> Result<(), AllocError>
-    ensures { OnOk result (map (λ f. f.now) list.new.items ≡ from.now) }
+// Whether a field stands in quotes: it has a comma, a quote or the end of a line.
+fn needs_quotes(field: &[u8]) -> bool
+    ensures { result ≡ needs_quotes default_writer field.now }
 {
-    list.clear();
-    for i in 0..from.len() {
-        if let Some(text) = from.get(i) {
-            list.push(text.as_bytes())?;
+    for i in 0..field.len() {
+        if matches!(field[i], b',' | b'"' | b'\r' | b'\n') {
+            return true;
         }
     }
+    false
+}
+
+// Adds the bytes of a field, each quote twice.
+fn push_escaped(field: &[u8], text: &mut Vec<u8>) -> Result<(), AllocError>
+    ensures { OnOk result (text.new.items ≡ text.old.items ++ escaped default_writer field.now) }
+{
+    for i in 0..field.len() {
+        if field[i] == b'"' {
+            text.push(b'"')?;
+        }
+        text.push(field[i])?;
+    }
+    Ok(())
+}
+
+// Adds a field, in quotes where it needs them.
+fn push_field(field: &[u8], text: &mut Vec<u8>) -> Result<(), AllocError>
+    ensures { OnOk result (text.new.items ≡ text.old.items ++ field_text default_writer field.now) }
+{
+    if !needs_quotes(field) {
+        return text.extend_from_slice(field);
+    }
+    text.push(b'"')?;
+    push_escaped(field, text)?;
+    text.push(b'"')?;
+    Ok(())
+}
+
+// Adds the fields of a record, with commas between them.
+fn push_fields(from: &Record<'_>, text: &mut Vec<u8>) -> Result<(), AllocError>
+    ensures { OnOk result (text.new.items ≡ text.old.items ++ row_body default_writer from.now) }
+{
+    for i in 0..from.len() {
+        if i > 0 {
+            text.push(b',')?;
+        }
+        push_field(from.at(i).as_bytes(), text)?;
+    }
+    Ok(())
+}
+
+// Adds the line of a record. One that shows nothing has two quotes: an empty line is no record.
+fn push_record(from: &Record<'_>, text: &mut Vec<u8>) -> Result<(), AllocError>
+    ensures { OnOk result (text.new.items ≡ text.old.items ++ row_text default_writer from.now) }
+{
+    let size = text.len();
+    push_fields(from, text)?;
+    if from.len() < 2 && text.len() == size {
+        text.extend_from_slice(b"\"\"")?;
+    }
+    text.push(b'\n')?;
     Ok(())
 }
 
@@ -35,21 +86,11 @@ fn room_for(alloc: Global, records: &Records<'_>) -> Result<Vec<u8>, AllocError>
 fn write_each(alloc: Global, records: &Records<'_>) -> Result<Vec<u8>, AllocError>
     ensures { IfOk result (λ bytes. bytes.items ≡ records_text records.now) }
 {
-    let mut writer = WriterBuilder::new()
-        .flexible(true)
-        .from_writer(room_for(alloc, records)?);
-    let mut fields = Vec::new(alloc);
+    let mut text = room_for(alloc, records)?;
     for i in 0..records.len() {
-        fill_bytes(&records.record(i), &mut fields)?;
-        // A write to a vector fails only if memory runs out.
-        let Ok(()) = writer.write_fields(fields.as_slice()) else {
-            return Err(AllocError);
-        };
+        push_record(&records.record(i), &mut text)?;
     }
-    let Ok(bytes) = writer.into_inner() else {
-        return Err(AllocError);
-    };
-    Ok(bytes)
+    Ok(text)
 }
 
 /// The text of records.
@@ -57,7 +98,7 @@ pub fn write_records(alloc: Global, records: &Records<'_>) -> Result<String, All
     ensures { IfOk result (λ text. string_bytes text ≡ records_text records.now) }
 {
     let bytes = write_each(alloc, records)?;
-    // Fields are text, and so is what the writer sets between them.
+    // Fields are text, and so is what stands between them.
     let Ok(text) = String::from_utf8(bytes) else {
         return Err(AllocError);
     };

@@ -1,13 +1,9 @@
-//! What opens files by their names, and makes new ones.
+//! What opens files by their names, and what makes new ones.
 
 use crate::fault::FileFault;
 use std::io::Read;
 
-/// Files by their names.
-///
-/// A message is written into files that are made under hidden names, so that nobody takes a part
-/// of it for the whole, and that get their own names when all are whole. Hidden names are none of
-/// those that hold texts here.
+/// Files by their names, to be read: whoever is lent this makes, changes and removes none.
 pub trait NamedFiles {
     ghost use Rattle.std.specs.Prelude.{◌≡◌, List, Option, ℕ, IfOk, false};
 
@@ -20,15 +16,6 @@ pub trait NamedFiles {
     /// Reads a file.
     type Reader: Read + Drop;
 
-    /// A file for temporary use, which has no name.
-    type Scratch: Drop;
-
-    /// Hidden names for the files of one message.
-    type Hidden: Drop;
-
-    /// A file that was made under a hidden name.
-    type Made: Drop;
-
     /// Whether a folder has this name.
     fn is_folder(&self, name: &str) -> bool
         ensures { result ≡ false → lacks_folder self.now name.now };
@@ -39,6 +26,22 @@ pub trait NamedFiles {
     /// Opens the file of this name to be read.
     fn open(&self, name: &str) -> Result<Self::Reader, FileFault>
         ensures { IfOk result (λ reader. Self.Reader.remaining reader ≡ holds self.now name.now) };
+}
+
+/// Files by their names, and new ones, which `convert` alone makes.
+///
+/// A message is written into files that are made under hidden names, so that nobody takes a part
+/// of it for the whole, and that get their own names when all are whole. Hidden names are none of
+/// those that hold texts here.
+pub trait MakesFiles: NamedFiles {
+    /// A file for temporary use, which has no name.
+    type Scratch: Drop;
+
+    /// Hidden names for the files of one message.
+    type Hidden: Drop;
+
+    /// A file that was made under a hidden name.
+    type Made: Drop;
 
     /// A new file without a name. It is gone with the program.
     fn new_scratch(&self) -> Result<Self::Scratch, FileFault>;

@@ -1,7 +1,7 @@
 //! The files of the machine.
 
 use crate::fault::FileFault;
-use crate::files::NamedFiles;
+use crate::files::{MakesFiles, NamedFiles};
 use crate::hidden::Hidden;
 use crate::host_calls::{create_beside, create_new, is_empty, is_same, or_fault};
 use crate::names::path_in;
@@ -119,12 +119,6 @@ impl<'a> NamedFiles for HostFiles<'a> {
 
     type Reader = File;
 
-    type Scratch = File;
-
-    type Hidden = Hidden;
-
-    type Made = HiddenFile;
-
     fn is_folder(&self, name: &str) -> bool {
         match fs::metadata(self.rt, name) {
             Ok(found) => found.is_dir(),
@@ -142,6 +136,14 @@ impl<'a> NamedFiles for HostFiles<'a> {
     fn open(&self, name: &str) -> Result<File, FileFault> {
         or_fault(self.rt, name, File::open(self.rt, name))
     }
+}
+
+impl<'a> MakesFiles for HostFiles<'a> {
+    type Scratch = File;
+
+    type Hidden = Hidden;
+
+    type Made = HiddenFile;
 
     fn new_scratch(&self) -> Result<File, FileFault> {
         temporary(self.rt)

@@ -1,14 +1,14 @@
 //! The parts of a message as files of a folder, made under hidden names.
 
 use crate::fault::FileFault;
-use crate::files::NamedFiles;
+use crate::files::MakesFiles;
 use crate::placing::name_all;
 use crate::targets::targets_of;
 use std::alloc::Global;
 
 /// The files of the parts of one message.
 #[derive(Drop)]
-pub struct PartFiles<'a, F: NamedFiles> {
+pub struct PartFiles<'a, F: MakesFiles> {
     alloc: Global,
     files: &'a F,
     folder: &'a str,
@@ -19,13 +19,13 @@ pub struct PartFiles<'a, F: NamedFiles> {
 
 /// The files of the parts of one message, all of which were made.
 #[derive(Drop)]
-pub struct MadeFiles<F: NamedFiles> {
+pub struct MadeFiles<F: MakesFiles> {
     alloc: Global,
     hidden: Option<F::Hidden>,
     made: Vec<F::Made>,
 }
 
-impl<'a, F: NamedFiles> PartFiles<'a, F> {
+impl<'a, F: MakesFiles> PartFiles<'a, F> {
     /// No part yet, of a message of this NAME that goes into that folder.
     pub fn new(alloc: Global, files: &'a F, folder: &'a str, name: &'a str) -> PartFiles<'a, F> {
         PartFiles {
@@ -81,7 +81,7 @@ impl<'a, F: NamedFiles> PartFiles<'a, F> {
     }
 }
 
-impl<F: NamedFiles> MadeFiles<F> {
+impl<F: MakesFiles> MadeFiles<F> {
     /// Gives the files the names of the parts of a message of this NAME in so many parts, in that
     /// folder: all of them or, with a fault, none where those that were given can be taken back. A
     /// file that has such a name already keeps it: that is a fault, unless it has the same text, or

@@ -10,7 +10,7 @@ use feed_files::{Run, Showing, convert_files};
 use feed_mapping::Choices;
 use feed_terms::table::Terms;
 use program_commands::streams::Streams;
-use program_files::NamedFiles;
+use program_files::MakesFiles;
 use program_rules::terms::open_terms;
 use program_words::convert_words::Conversion;
 use std::alloc::Global;
@@ -34,7 +34,7 @@ fn copied<'a>(choices: &Choices<'a>) -> Choices<'a>
 }
 
 // Converts FILEs by these terms or by none.
-fn convert_by<C: Clock, F: NamedFiles, R: Read, W: Write, E: Write>(
+fn convert_by<C: Clock, F: MakesFiles, R: Read, W: Write, E: Write>(
     alloc: Global,
     clock: &C,
     conversion: &Conversion<'_>,
@@ -75,7 +75,7 @@ fn convert_by<C: Clock, F: NamedFiles, R: Read, W: Write, E: Write>(
 
 /// Converts FILEs, by the terms of a file where one is named. Where there are no terms in that file,
 /// that is reported, and no FILE is opened.
-pub(crate) fn convert<C: Clock, F: NamedFiles, R: Read, W: Write, E: Write>(
+pub(crate) fn convert<C: Clock, F: MakesFiles, R: Read, W: Write, E: Write>(
     alloc: Global,
     clock: &C,
     conversion: &Conversion<'_>,

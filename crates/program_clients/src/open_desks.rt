@@ -4,11 +4,11 @@ use std::io::Read;
 
 /// Desks that are open, by the names of their sockets.
 pub trait OpenDesks {
-    ghost use Rattle.std.specs.Prelude.{List, ℕ};
+    ghost use Rattle.std.specs.Prelude.{List, None, Option, ℕ, IfErr, IfOk};
 
     // The desk of that name was sent that text, or after a fault perhaps a first part of it: the
-    // desks as they were, and as they are.
-    ghost sends: { List ℕ → List ℕ → Self → Self → Type 0 };
+    // desks as they were, and as they are; and this comes of it, where that is told.
+    ghost sends: { List ℕ → List ℕ → Self → Self → Option (List ℕ) → Type 0 };
 
     /// Reads what a desk sends.
     type Reader: Read + Drop;
@@ -16,5 +16,7 @@ pub trait OpenDesks {
     /// Sends a text to the desk of that name, and that it is all. Gives what reads its answers, or
     /// why it cannot be sent.
     fn send(&mut self, name: &str, text: &[u8]) -> Result<Self::Reader, &'static str>
-        ensures { sends name.now text.now self.old self.new };
+        ensures ok { IfOk result (λ reader. sends name.now text.now self.old self.new
+            (Self.Reader.remaining reader)) }
+        ensures err { IfErr result (λ why. sends name.now text.now self.old self.new None) };
 }

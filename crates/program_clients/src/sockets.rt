@@ -103,8 +103,8 @@ impl<'a> Sockets<'a> {
 }
 
 impl<'a> OpenDesks for Sockets<'a> {
-    // A socket tells nothing of what was sent.
-    ghost sends = { λ name text old new. new ≡ old };
+    // A socket tells nothing of what was sent, nor of what comes.
+    ghost sends = { λ name text old new came. new ≡ old };
 
     type Reader = UnixStream;
 

@@ -2,9 +2,8 @@
 use Rattle.std.proofs.Common.{◌≡◌, ◌++◌, ◌∙◌, ℕ, Bool, List, [], Option, None, Some, Ok, ap, append_assoc, length, subst, sym}
 use Rattle.std.specs.Io.KnownBytes.{Consumes}
 use Rattle.csv_records.specs.Streams.{IsTold}
-use Rattle.csv_records.specs.RecordTexts.{records_of}
 use Rattle.desk_texts.specs.Requests.{HasRecords, requests_of}
-use Rattle.program_commands.specs.Sending.{SendFits, TakesAnswers, WritesCame, unanswered}
+use Rattle.program_commands.specs.Sending.{SendFits, TakesAnswers, WritesCame}
 
 -- what was taken begins what comes
 came_of : (was now : Option (List ℕ)) (bytes : List ℕ) → Consumes was now bytes → (rest : List ℕ) × IsTold was (bytes ++ rest)
@@ -33,10 +32,6 @@ wrote_part was now written bytes chunk part rest took is wrote =
 -- ---- the answers to the batch of a text
 
 -- all of them came
-pub sent_whole : (F : Type 0) (text : List ℕ) (asked : ℕ) (came : Option (List ℕ)) (written : List ℕ → Type 0) (refused : Bool) → HasRecords text → asked ≡ length (requests_of text) → TakesAnswers asked came written (Ok refused)
-    → SendFits {F = F} text written (Ok refused)
-sent_whole F text asked came written refused has is takes = (has, (takes.0, tt, subst (λ n. unanswered n (records_of takes.0) ≡ 0) is takes.2, takes.3, takes.4))
-
--- some of them did
-pub sent_part : (came : Option (List ℕ)) (written : List ℕ → Type 0) → WritesCame came written → WritesCame None written
-sent_part came written some = (some.0, some.1, tt, some.3)
+pub sent_whole : (F : Type 0) (text : List ℕ) (asked : ℕ) (sent : Option (List ℕ) → Type 0) (unsent : Type 0) (came : Option (List ℕ)) (written : List ℕ → Type 0) (refused : Bool) → HasRecords text → asked ≡ length (requests_of text) → sent came
+    → TakesAnswers asked came written (Ok refused) → SendFits {F = F} text sent unsent written (Ok refused)
+sent_whole F text asked sent unsent came written refused has is was takes = (has, came, was, subst (λ n. TakesAnswers n came written (Ok refused)) is takes)

@@ -1,6 +1,6 @@
 -- How the command `batch` ends that sends its batch to an open desk, whose answers it writes.
 use Prim.Native.String.{String}
-use Rattle.std.specs.Prelude.{◌≡◌, ◌-◌, ◌++◌, ◌∷◌, ◌⊎◌, ℕ, Bool, List, [], None, Option, Result, Ok, Err, length, if◌then◌else◌}
+use Rattle.std.specs.Prelude.{◌≡◌, ◌-◌, ◌++◌, ◌∷◌, ◌⊎◌, ℕ, Bool, List, [], Option, Result, Ok, Err, length, if◌then◌else◌}
 use Rattle.std.specs.List.{list_any}
 use Rattle.csv_records.specs.RecordTexts.{records_of}
 use Rattle.csv_records.specs.Streams.{IsTold}
@@ -37,21 +37,27 @@ TakesAnswers asked came written (Ok refused) =
     × written answers
 TakesAnswers asked came written (Err f) = WritesCame came written
 
+-- the status of a batch that was sent: whether one answer is a refusal, or a fault
+abbrev pub status_of : Result Bool Fault → ℕ
+status_of (Ok refused) = if refused then 1 else 0
+status_of (Err f) = 3
+
 -- how sending the batch of a text can end: each request has an answer in what came, which was
--- written; or some of it was. Of a desk that is open nothing is told
-abbrev pub SendFits : {F : Type 0} → List ℕ → (List ℕ → Type 0) → Result Bool F → Type 0
-SendFits text written (Ok refused) =
-    HasRecords text × TakesAnswers (length (requests_of text)) None written (Ok refused)
-SendFits text written (Err f) = WritesCame None written
+-- written; or a first part of what came was written; or nothing was sent or written. Sent: the desk
+-- was sent that text, once, and this comes of it. Unsent: nothing was sent
+abbrev pub SendFits : {F : Type 0} → List ℕ → (Option (List ℕ) → Type 0) → Type 0
+    → (List ℕ → Type 0) → Result Bool F → Type 0
+SendFits text sent unsent written (Ok refused) =
+    HasRecords text × (came : Option (List ℕ)) × sent came
+    × TakesAnswers (length (requests_of text)) came written (Ok refused)
+SendFits text sent unsent written (Err f) =
+    ((came : Option (List ℕ)) × sent came × WritesCame came written) ⊎ (unsent × written [])
 
 -- how the command can end with this status: the text of the input was sent, and each request in it
 -- has an answer in what came, which was written, with 0, or 1 for a refusal; or a fault ended it,
--- with 3, behind that or before anything was sent. Told: what the input tells of its bytes. Sent:
--- the desk was sent that text, once. Unsent: nothing was sent
-abbrev pub SendEnds : Option (List ℕ) → (List ℕ → Type 0) → Type 0 → (List ℕ → Type 0) → ℕ
-    → Type 0
+-- with 3, behind that or before anything was sent. Told: what the input tells of its bytes
+abbrev pub SendEnds : Option (List ℕ) → (List ℕ → Option (List ℕ) → Type 0) → Type 0
+    → (List ℕ → Type 0) → ℕ → Type 0
 SendEnds told sent unsent written status =
-    (text : List ℕ) × IsTold told text
-    × (((refused : Bool) × SendFits {F = Fault} text written (Ok refused) × sent text
-    × (status ≡ (if refused then 1 else 0)))
-    ⊎ ((status ≡ 3) × WritesCame None written × (sent text ⊎ unsent)))
+    (text : List ℕ) × IsTold told text × (result : Result Bool Fault)
+    × SendFits text (sent text) unsent written result × (status ≡ status_of result)

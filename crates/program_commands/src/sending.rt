@@ -1,7 +1,7 @@
 //! The command `batch` with `--batches`: the batch of standard input is sent to a desk that is
 //! open, and its answers come to standard output. Nothing of a desk is opened here.
 
-ghost use Rattle.std.specs.Prelude.{◌≡◌, ◌-◌, ◌∷◌, ◌||◌, ◌⊎◌, ◌≤◌, [], if◌then◌else◌, IfErr, IfOk, OnErr, length};
+ghost use Rattle.std.specs.Prelude.{◌≡◌, ◌-◌, ◌∷◌, ◌||◌, ◌≤◌, [], if◌then◌else◌, IfOk, OnErr, length};
 ghost use Rattle.std.specs.Io.KnownBytes.{Appends};
 ghost use Rattle.std.specs.List.{list_any};
 ghost use Rattle.csv.specs.Records.{fields_of};
@@ -185,11 +185,8 @@ fn send_batch<K: OpenDesks, W: Write>(
     output: &mut W,
     reasons: &mut Reasons<'_>,
 ) -> Result<bool, CausedFault>
-    ensures fits { SendFits text.now
-        (Appends (W.contents output.old) (W.contents output.new)) result }
-    ensures sent { IfOk result (λ refused. K.sends socket.now text.now desks.old desks.new) }
-    ensures unsent { IfErr result (λ fault. K.sends socket.now text.now desks.old desks.new
-        ⊎ (desks.new ≡ desks.old)) }
+    ensures { SendFits text.now (K.sends socket.now text.now desks.old desks.new)
+        (desks.new ≡ desks.old) (Appends (W.contents output.old) (W.contents output.new)) result }
 {
     let requests = match requests_in(alloc, text, reasons) {
         Ok(requests) => requests,

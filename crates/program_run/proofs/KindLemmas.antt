@@ -32,7 +32,7 @@ over_as files databases name creation written first then f status (Untouched lef
 
 module _ {M : Type 0} {m : DeskKind} (seen : M → View m) {K : Type 0} {k : DeskKind} {C U N : Type 0} (files : DeskFiles K k C U N) {O P F R W E : Type 0} (holds : F → Holdings)
     (lacks_folder : F → List ℕ → Type 0) (contents : W → Option (List ℕ)) (remaining : R → Option (List ℕ)) (databases : K) (old new : Machine O P F R W E) (result : ℕ × FilesLeft K N U C)
-    (sends : List ℕ → List ℕ → O → O → Type 0) where
+    (sends : List ℕ → List ℕ → O → O → Option (List ℕ) → Type 0) where
   abbrev Ended : List Rule → Action → Type 0
   Ended = ActionEnds seen files holds lacks_folder contents remaining databases old new result sends
 

@@ -113,8 +113,9 @@ module _ {M : Type 0} {m : DeskKind} (seen : M → View m) {K : Type 0} {k : Des
       result.1
   Migrates rules _ = ⊤
 
-  -- `batch` to an open desk. Sends: the desk of that name was sent that text
-  abbrev pub Sends : (List ℕ → List ℕ → O → O → Type 0) → List Rule → Action → Type 0
+  -- `batch` to an open desk. Sends: the desk of that name was sent that text, and this comes of it
+  abbrev pub Sends : (List ℕ → List ℕ → O → O → Option (List ℕ) → Type 0) → List Rule → Action
+      → Type 0
   Sends sends rules (Send socket) =
       NamesStay × NobodyIsServed × IsUntouched result.1
       × SendEnds (remaining old.streams.input)
@@ -180,7 +181,8 @@ module _ {M : Type 0} {m : DeskKind} (seen : M → View m) {K : Type 0} {k : Des
   abbrev pub MigrateRun : List (Bor (List ℕ)) → Type 0
   MigrateRun words = RunEnds ReadsOther words Migrates
 
-  abbrev pub SendRun : (List ℕ → List ℕ → O → O → Type 0) → List (Bor (List ℕ)) → Type 0
+  abbrev pub SendRun : (List ℕ → List ℕ → O → O → Option (List ℕ) → Type 0)
+      → List (Bor (List ℕ)) → Type 0
   SendRun sends words = RunEnds ReadsOther words (Sends sends)
 
   abbrev pub ConvertRun : List (Bor (List ℕ)) → Type 0
@@ -192,7 +194,8 @@ module _ {M : Type 0} {m : DeskKind} (seen : M → View m) {K : Type 0} {k : Des
   -- ---- within the program
 
   -- an action ended as one of its kind, whichever that is
-  abbrev pub ActionEnds : (List ℕ → List ℕ → O → O → Type 0) → List Rule → Action → Type 0
+  abbrev pub ActionEnds : (List ℕ → List ℕ → O → O → Option (List ℕ) → Type 0) → List Rule
+      → Action → Type 0
   ActionEnds sends rules action =
       RunsTask (λ task asked own. TaskEnds asked Written task (holds old.files)
       (remaining old.streams.input) (remaining new.streams.input) own) rules action

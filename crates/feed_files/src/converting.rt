@@ -156,6 +156,7 @@ fn convert_out<C: Clock, F: MakesFiles, R: Read, W: Write, E: Write>(
     showing: &Showing<'_, C>,
     file: &str,
     files: &F,
+    leave: &F::Leave,
     reader: &mut R,
     options: &Options<'_>,
     output: &mut W,
@@ -167,7 +168,7 @@ fn convert_out<C: Clock, F: MakesFiles, R: Read, W: Write, E: Write>(
 {
     let alloc = showing.alloc;
     let target = Collected {
-        store: Spool::new(alloc, files),
+        store: Spool::new(alloc, files, leave),
         notes: Notes::new(alloc, file, options),
         fault: None,
     };
@@ -217,6 +218,7 @@ fn convert_into<C: Clock, F: MakesFiles, R: Read, E: Write>(
     showing: &Showing<'_, C>,
     file: &str,
     files: &mut F,
+    leave: &F::Leave,
     reader: &mut R,
     options: &Options<'_>,
     folder: &str,
@@ -228,7 +230,7 @@ fn convert_into<C: Clock, F: MakesFiles, R: Read, E: Write>(
     let alloc = showing.alloc;
     let name = name_of(file);
     let target = Collected {
-        store: PartFiles::new(alloc, files, folder, name),
+        store: PartFiles::new(alloc, files, leave, folder, name),
         notes: Notes::new(alloc, file, options),
         fault: None,
     };
@@ -285,6 +287,7 @@ fn convert_file<C: Clock, F: MakesFiles, R: Read, W: Write, E: Write>(
     run: &Run<'_>,
     file: &str,
     files: &mut F,
+    leave: &F::Leave,
     input: &mut R,
     output: &mut W,
     telling: &mut Telling<'_, E>,
@@ -301,8 +304,10 @@ fn convert_file<C: Clock, F: MakesFiles, R: Read, W: Write, E: Write>(
     let options = &run.options;
     if file == STANDARD_INPUT {
         return match run.folder {
-            Some(folder) => convert_into(showing, file, files, input, options, folder, telling),
-            None => convert_out(showing, file, files, input, options, output, telling),
+            Some(folder) => convert_into(
+                showing, file, files, leave, input, options, folder, telling,
+            ),
+            None => convert_out(showing, file, files, leave, input, options, output, telling),
         };
     }
     if is_packed(file) {
@@ -313,8 +318,26 @@ fn convert_file<C: Clock, F: MakesFiles, R: Read, W: Write, E: Write>(
         Err(fault) => return report_fault(showing.alloc, &fault, telling.errors),
     };
     match run.folder {
-        Some(folder) => convert_into(showing, file, files, &mut reader, options, folder, telling),
-        None => convert_out(showing, file, files, &mut reader, options, output, telling),
+        Some(folder) => convert_into(
+            showing,
+            file,
+            files,
+            leave,
+            &mut reader,
+            options,
+            folder,
+            telling,
+        ),
+        None => convert_out(
+            showing,
+            file,
+            files,
+            leave,
+            &mut reader,
+            options,
+            output,
+            telling,
+        ),
     }
 }
 
@@ -360,6 +383,7 @@ pub fn convert_files<C: Clock, F: MakesFiles, R: Read, W: Write, E: Write>(
     run: &Run<'_>,
     names: &[&str],
     files: &mut F,
+    leave: &F::Leave,
     input: &mut R,
     output: &mut W,
     errors: &mut E,
@@ -380,7 +404,16 @@ pub fn convert_files<C: Clock, F: MakesFiles, R: Read, W: Write, E: Write>(
     };
     let mut status = 0;
     for file in names {
-        let ended = convert_file(showing, run, file, files, input, output, &mut telling);
+        let ended = convert_file(
+            showing,
+            run,
+            file,
+            files,
+            leave,
+            input,
+            output,
+            &mut telling,
+        );
         status = greater(status, ended.status());
     }
     let Telling { errors, summary } = telling;

@@ -34,6 +34,11 @@ pub trait NamedFiles {
 /// of it for the whole, and that get their own names when all are whole. Hidden names are none of
 /// those that hold texts here.
 pub trait MakesFiles: NamedFiles {
+    ghost use Rattle.std.specs.Prelude.{◌≡◌};
+
+    /// The leave to make files. Whoever is lent files to be read alone has none.
+    type Leave: Drop;
+
     /// A file for temporary use, which has no name.
     type Scratch: Drop;
 
@@ -43,8 +48,13 @@ pub trait MakesFiles: NamedFiles {
     /// A file that was made under a hidden name.
     type Made: Drop;
 
+    /// Gives leave to make files. Names hold what they held.
+    fn leave(&mut self) -> Self::Leave
+        ensures holds { Self.holds self.new ≡ Self.holds self.old }
+        ensures folders { Self.lacks_folder self.new ≡ Self.lacks_folder self.old };
+
     /// A new file without a name. It is gone with the program.
-    fn new_scratch(&self) -> Result<Self::Scratch, FileFault>;
+    fn new_scratch(&self, leave: &Self::Leave) -> Result<Self::Scratch, FileFault>;
 
     /// Writes a text to a file without a name, behind what it has.
     fn append(&self, file: &mut Self::Scratch, text: &[u8]) -> Result<(), FileFault>;
@@ -53,7 +63,12 @@ pub trait MakesFiles: NamedFiles {
     fn read_scratch(&self, file: Self::Scratch) -> Result<Self::Reader, FileFault>;
 
     /// Hidden names in a folder for the files of a message of this NAME, which no other run takes.
-    fn hide(&self, folder: &str, name: &str) -> Result<Self::Hidden, FileFault>;
+    fn hide(
+        &self,
+        leave: &Self::Leave,
+        folder: &str,
+        name: &str,
+    ) -> Result<Self::Hidden, FileFault>;
 
     /// Makes the file of the part of this number under its hidden name, with this text.
     fn make(

@@ -139,13 +139,17 @@ impl<'a> NamedFiles for HostFiles<'a> {
 }
 
 impl<'a> MakesFiles for HostFiles<'a> {
+    type Leave = ();
+
     type Scratch = File;
 
     type Hidden = Hidden;
 
     type Made = HiddenFile;
 
-    fn new_scratch(&self) -> Result<File, FileFault> {
+    fn leave(&mut self) {}
+
+    fn new_scratch(&self, _leave: &()) -> Result<File, FileFault> {
         temporary(self.rt)
     }
 
@@ -158,7 +162,7 @@ impl<'a> MakesFiles for HostFiles<'a> {
         Ok(file)
     }
 
-    fn hide(&self, folder: &str, name: &str) -> Result<Hidden, FileFault> {
+    fn hide(&self, _leave: &(), folder: &str, name: &str) -> Result<Hidden, FileFault> {
         Hidden::take(self.rt, folder, name)
     }
 

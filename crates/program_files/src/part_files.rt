@@ -11,6 +11,7 @@ use std::alloc::Global;
 pub struct PartFiles<'a, F: MakesFiles> {
     alloc: Global,
     files: &'a F,
+    leave: &'a F::Leave,
     folder: &'a str,
     name: &'a str,
     hidden: Option<F::Hidden>,
@@ -27,10 +28,17 @@ pub struct MadeFiles<F: MakesFiles> {
 
 impl<'a, F: MakesFiles> PartFiles<'a, F> {
     /// No part yet, of a message of this NAME that goes into that folder.
-    pub fn new(alloc: Global, files: &'a F, folder: &'a str, name: &'a str) -> PartFiles<'a, F> {
+    pub fn new(
+        alloc: Global,
+        files: &'a F,
+        leave: &'a F::Leave,
+        folder: &'a str,
+        name: &'a str,
+    ) -> PartFiles<'a, F> {
         PartFiles {
             alloc,
             files,
+            leave,
             folder,
             name,
             hidden: None,
@@ -54,7 +62,7 @@ impl<'a, F: MakesFiles> PartFiles<'a, F> {
     fn make(&mut self, number: u32, text: &[u8]) -> Result<F::Made, FileFault> {
         let hidden = match self.hidden.take() {
             Some(hidden) => hidden,
-            None => self.files.hide(self.folder, self.name)?,
+            None => self.files.hide(self.leave, self.folder, self.name)?,
         };
         let made = self.files.make(&hidden, self.folder, number, text);
         self.hidden = Some(hidden);

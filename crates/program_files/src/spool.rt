@@ -25,6 +25,7 @@ const STANDARD_OUTPUT: &str = "standard output";
 pub struct Spool<'a, F: MakesFiles> {
     alloc: Global,
     files: &'a F,
+    leave: &'a F::Leave,
     first: Vec<u8>,
     rest: Option<F::Scratch>,
 }
@@ -68,12 +69,13 @@ fn has_room(before: usize, more: usize) -> bool
 
 impl<'a, F: MakesFiles> Spool<'a, F> {
     /// No part yet.
-    pub fn new(alloc: Global, files: &'a F) -> Spool<'a, F>
+    pub fn new(alloc: Global, files: &'a F, leave: &'a F::Leave) -> Spool<'a, F>
         ensures { told_texts result.first.items result.rest ≡ Some [] }
     {
         Spool {
             alloc,
             files,
+            leave,
             first: Vec::new(alloc),
             rest: None,
         }
@@ -97,7 +99,7 @@ impl<'a, F: MakesFiles> Spool<'a, F> {
     {
         let mut file = match self.rest.take() {
             Some(file) => file,
-            None => self.files.new_scratch()?,
+            None => self.files.new_scratch(self.leave)?,
         };
         self.files.append(&mut file, text)?;
         self.rest = Some(file);
@@ -116,6 +118,7 @@ impl<'a, F: MakesFiles> Spool<'a, F> {
             files,
             first,
             rest,
+            ..
         } = self;
         write_part(alloc, output, first.as_slice())?;
         match rest {

@@ -47,9 +47,9 @@ module _ {M : Type 0} {m : DeskKind} (seen : M → View m) {K : Type 0} {k : Des
   abbrev pub Written : List ℕ → Type 0
   Written = Appends (contents old.streams.output) (contents new.streams.output)
 
-  -- names hold what they held
+  -- names hold what they held, and no leave was given to make files
   abbrev pub NamesStay : Type 0
-  NamesStay = holds new.files ≡ holds old.files
+  NamesStay = new.files ≡ old.files
 
   -- nothing was sent to an open desk
   abbrev pub NothingIsSent : Type 0

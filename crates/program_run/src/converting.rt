@@ -40,6 +40,7 @@ fn convert_by<C: Clock, F: MakesFiles, R: Read, W: Write, E: Write>(
     conversion: &Conversion<'_>,
     terms: Option<&Terms>,
     files: &mut F,
+    leave: &F::Leave,
     streams: &mut Streams<R, W, E>,
 ) -> u8
     ensures status { result ≤ 3 }
@@ -67,10 +68,43 @@ fn convert_by<C: Clock, F: MakesFiles, R: Read, W: Write, E: Write>(
         &run,
         names,
         files,
+        leave,
         &mut streams.input,
         &mut streams.output,
         &mut streams.errors.writer,
     )
+}
+
+// Converts FILEs, by the terms of a file where one is named, with leave to make files.
+fn convert_with_leave<C: Clock, F: MakesFiles, R: Read, W: Write, E: Write>(
+    alloc: Global,
+    clock: &C,
+    conversion: &Conversion<'_>,
+    files: &mut F,
+    leave: &F::Leave,
+    streams: &mut Streams<R, W, E>,
+) -> u8
+    ensures status { result ≤ 3 }
+    ensures end { ConvertEnds (F.holds files.old) (F.holds files.new)
+        (F.lacks_folder files.old) (R.remaining streams.old.input)
+        (Appends (W.contents streams.old.output) (W.contents streams.new.output))
+        (asked_view conversion.now) result }
+{
+    let Some(name) = conversion.terms else {
+        return convert_by(alloc, clock, conversion, None, files, leave, streams);
+    };
+    match open_terms(alloc, files, name, &mut streams.errors.writer) {
+        Ok(terms) => convert_by(
+            alloc,
+            clock,
+            conversion,
+            Some(&terms),
+            files,
+            leave,
+            streams,
+        ),
+        Err(status) => status,
+    }
 }
 
 /// Converts FILEs, by the terms of a file where one is named. Where there are no terms in that file,
@@ -88,11 +122,6 @@ pub(crate) fn convert<C: Clock, F: MakesFiles, R: Read, W: Write, E: Write>(
         (Appends (W.contents streams.old.output) (W.contents streams.new.output))
         (asked_view conversion.now) result }
 {
-    let Some(name) = conversion.terms else {
-        return convert_by(alloc, clock, conversion, None, files, streams);
-    };
-    match open_terms(alloc, files, name, &mut streams.errors.writer) {
-        Ok(terms) => convert_by(alloc, clock, conversion, Some(&terms), files, streams),
-        Err(status) => status,
-    }
+    let leave = files.leave();
+    convert_with_leave(alloc, clock, conversion, files, &leave, streams)
 }

@@ -1,10 +1,10 @@
-use Rattle.std.proofs.Common.{ap, refl}
+use Rattle.std.proofs.Common.{refl}
 use Rattle.std.proofs.KnownBytes.{Appends-nil}
 use Rattle.program_run.proofs.program.run_action.Goals.{in-CheckRules, in-CheckTerms, in-CheckTexts, in-Convert, in-InMemory, in-Send}
 use Rattle.program_run.proofs.program.run_action.Goals as goal
 
 pub returns-in-InFile-clause-end : goal.returns-in-InFile-clause-end
-returns-in-InFile-clause-end g c = rw c.in-InFile.is ((ap g.F.NamedFiles.holds c.run_in_file.ensures.files, c.run_in_file.ensures.desks, c.run_in_file.ensures.entrances, c.run_in_file.ensures.end), tt, tt, tt, tt, tt)
+returns-in-InFile-clause-end g c = rw c.in-InFile.is ((c.run_in_file.ensures.files, c.run_in_file.ensures.desks, c.run_in_file.ensures.entrances, c.run_in_file.ensures.end), tt, tt, tt, tt, tt)
 
 pub returns-in-Listed-clause-end : goal.returns-in-Listed-clause-end
 returns-in-Listed-clause-end g c = rw c.in-Listed.is (tt, (refl, refl, refl, c.list_file.ensures.end), tt, tt, tt, tt)

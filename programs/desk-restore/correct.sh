@@ -37,5 +37,5 @@ diff before.csv after.csv >changes || [ $? -eq 1 ]
 grep '^[<>]' changes | head -n 20 | cut -c 1-200
 echo "$(grep -c '^[<>]' changes) lines differ${mark:+; $mark of $series is refused after the yes}"
 desk-restore ${mark:+--refuse "$mark" "$series"} --said "$(echo $next) $said" --text after.csv before || status=$?
-systemctl start onixdesk-copy.service
+systemctl start onixdesk-copy.service || status=${status:-$?}
 exit "${status:-0}"

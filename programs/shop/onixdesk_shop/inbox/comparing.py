@@ -77,7 +77,7 @@ def look_at(inbox: Inbox, feed: Feed) -> tuple[Findings, int] | None:
         key = inbox.series, reference
         spans = [(old.offers[isbn, kind].get(key, []), new.offers[isbn, kind].get(key, [])) for kind in kinds]
         is_unchosen = old.choices[isbn][3:5] == [*key] and new.choices[isbn][2:] == ["none"]
-        compare(findings, isbn, spans, makes_record, is_unchosen)
+        compare(findings, isbn, spans, makes_record, is_unchosen or products[reference][-1].is_deletion)
     return findings, len(known) * total // len(products)
 
 
@@ -210,7 +210,7 @@ def offers_in(answer: Records) -> dict[tuple[str, str], Spans]:
 
 
 def compare(
-    findings: Findings, isbn: str, spans: list[tuple[Spans, Spans]], makes_record: bool, is_unchosen: bool
+    findings: Findings, isbn: str, spans: list[tuple[Spans, Spans]], makes_record: bool, is_gone: bool
 ) -> None:
     """Adds the differences of a reference to the findings: its spans before and after the file, of each kind."""
     if not any(before for before, _ in spans):
@@ -223,15 +223,17 @@ def compare(
         findings.jumped.append(isbn)
     if any(5 * abs(one - other) > 2 * one for one, other in both):
         findings.moved.append(isbn)
-    if is_unchosen or any(one is not None and other is None for one, other in pairs):
+    if is_gone or any(one is not None and other is None for one, other in pairs):
         findings.lost.append(isbn)
 
 
 def amounts(old: Spans, new: Spans) -> Iterator[tuple[int | None, int | None]]:
-    """The least amounts in both, for each day on which one of them changes."""
+    """The least amounts in both, and the greatest, for each day on which one of them changes."""
     for day in sorted({first for first, _, _ in [*old, *new]}):
-        yield least(old, day), least(new, day)
+        before, after = on(old, day), on(new, day)
+        yield min(before, default=None), min(after, default=None)
+        yield max(before, default=None), max(after, default=None)
 
 
-def least(spans: Spans, day: str) -> int | None:
-    return min((amount for first, last, amount in spans if first <= day <= last and amount is not None), default=None)
+def on(spans: Spans, day: str) -> list[int]:
+    return [amount for first, last, amount in spans if first <= day <= last and amount is not None]

@@ -38,7 +38,9 @@ def with_deletions(inbox: Inbox, feed: Feed, gaps: Gaps) -> list[Message]:
     lost, articles = len(gone) + feed.lost, inbox.ledger.articles()
     if lost >= LEAST and lost * 5 > articles and not inbox.is_let_in(feed.file):
         raise Quarantine(f"{lost} of {articles} articles would be deleted, {len(gone)} not named, or lose their price")
-    return filled(feed.messages, gone)
+    found = filled(feed.messages, gone)
+    feed.said.reasons["products deleted that it does not name"] = sum(message.deletions for message in found)
+    return found
 
 
 def why_not(feed: Feed, gaps: Gaps) -> str:

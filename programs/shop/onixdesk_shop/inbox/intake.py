@@ -4,7 +4,7 @@ import os
 import re
 from pathlib import Path
 
-from onixdesk_shop.inbox.context import Inbox
+from onixdesk_shop.inbox.context import HOUR, Inbox
 from onixdesk_shop.inbox.keeping import AT_END
 from onixdesk_shop.inbox.ledger import Decision, State
 from onixdesk_shop.lines import shown
@@ -45,7 +45,8 @@ def take_entry(inbox: Inbox, entry: Entry) -> None:
         why = "it is not a regular file"
     elif Path(name).suffix not in ENDINGS:
         why = f"it does not end in {', '.join(ENDINGS)}"
-    elif abs(inbox.machine.now() - entry.changed / 1e9) < inbox.settings.unchanged_seconds:
+    elif -HOUR < inbox.machine.now() - entry.changed / 1e9 < inbox.settings.unchanged_seconds:
+        # The clock of a file server may be ahead. If it is by more, ours was, before it was set right.
         return
     else:
         why = take_file(inbox, entry)

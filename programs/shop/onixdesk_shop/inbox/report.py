@@ -43,9 +43,10 @@ def lines(inbox: Inbox) -> Iterator[str]:
     yield from of_the_week(inbox)
     for file in sorted(inbox.ledger.files(WAITING), key=lambda file: file.state != "quarantined"):
         yield f"{file.mark}: {file.state} since {moment(file.at)}: {cut(file.why) or '-'}; {token(file.name)}"
-    yield from not_verified(inbox)
     yield from not_alike(inbox, gaps)
     yield from not_named(inbox)
+    # Last, since it ends the report if the file cannot be read.
+    yield from not_verified(inbox)
 
 
 def of_the_week(inbox: Inbox) -> Iterator[str]:

@@ -25,7 +25,7 @@ PROGRAMS = {
     "desk-copy": "mkdir before",
     "onixdesk": 'if [ "$4" = gaps ]; then echo "gaps,north,first=1,next=3,greatest=2"; else cat "$ROOM/text"; fi',
     "desk-restore": 'cp after.csv "$ROOM/corrected"; [ ! -e "$ROOM/hangs-up" ] || kill -HUP $PPID; exit "$(cat "$ROOM/status")"',
-    "systemctl": "",
+    "systemctl": '[ ! -e "$ROOM/no-copy" ]',
 }
 
 REFUSE = ["--refuse", "3f9a0c51d2b7", "north"]
@@ -67,5 +67,9 @@ def what_ends_it(room: Room) -> Iterator[Outcome]:
     yield Outcome("a wrong expression", corrected(room, "s/x")[1], CALLS[:3])
     yield Outcome("no expression", corrected(room), (1, []))
     yield Outcome("a restore that lacks something", corrected(room, *TAKE_OUT, status=1), (1, CALLS))
+    room.write("no-copy", b"")
+    for status, wanted in (0, 1), (3, 3):
+        yield Outcome(f"no copy after {status}", corrected(room, *TAKE_OUT, status=status), (wanted, CALLS))
+    room.path("no-copy").unlink()
     room.write("hangs-up", b"")
     yield Outcome("a terminal that hangs up", corrected(room, *TAKE_OUT), (0, CALLS))

@@ -69,6 +69,11 @@ def clock_ahead(room: Room) -> Iterator[Outcome]:
     inbox.take("1.xml", feed_of(None, {"R1": "1.00"}), START + 30 * DAY)
     inbox.take("2.xml", feed_of(None, {"R1": "2.00"}))
     yield Outcome("it is taken, and a later one", inbox.states(), {"1.xml": "applied", "2.xml": "applied"})
+    inbox.settings = replace(inbox.settings, unchanged_seconds=60)
+    for ahead, wanted in (90, 2), (-30, 3):
+        inbox.take("3.xml", feed_of(None, {"R1": "3.00"}), inbox.clock + ahead)
+        inbox.clock += -ahead if ahead < 0 else 0
+        yield Outcome(f"a server's clock ahead, {ahead}", len(inbox.states()), wanted)
 
 
 def order_without_ledger(room: Room) -> Iterator[Outcome]:
@@ -262,12 +267,9 @@ def begins_again(room: Room) -> Iterator[Outcome]:
 
 
 def said_of_products(room: Room) -> Iterator[Outcome]:
-    """Offers of several suppliers, and an update of a record that the desk lacks, are a warning."""
+    """An update of a record that the desk lacks is a warning."""
     inbox = inbox_in(room, "said")
-    records = message_of(1, [product_of("R1", "1.00", None) + [["SupplyDetail", "04", "", "", "South", "21", ""]]])
-    lines = inbox.take("two.csv", records)
-    yield Outcome("several suppliers", lines[0].partition(":")[0], "2 suppliers")
-    lines = inbox.take("gone.csv", message_of(2, [product_of("R2", "-", None)]))
+    lines = inbox.take("gone.csv", message_of(1, [product_of("R2", "-", None)]))
     yield Outcome("what is not there", lines[0].partition(":")[0], "1 change of records that the desk lacks")
 
 

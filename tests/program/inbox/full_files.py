@@ -30,7 +30,9 @@ def named(inbox: FakeInbox) -> list[str]:
 
 def deleted(room: Room) -> Iterator[Outcome]:
     inbox = inbox_in(room, "one", number=NEXT, full=1, full_names=("full*",))
-    send_all(inbox, full1=books(1, 2, 3), delta=books(4), full2=books(2, 3))
+    send_all(inbox, full1=books(1, 2, 3), delta=books(4))
+    lines = inbox.take("full2.xml", feed_of(None, books(2, 3), sent="full2"))
+    yield Outcome("it says how many", "products deleted that it does not name: 2" in lines[-1], True)
     yield Outcome("all that the last full file has not", named(inbox), ["B2", "B3"])
     inbox.send("full3.xml", feed_of(None, books(3)))
     with suppress(Killed):

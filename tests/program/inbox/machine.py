@@ -75,6 +75,8 @@ def broken_output(room: Room) -> Iterator[Outcome]:
     words = program("for _ in range(9): machine.write('x' * 99_999)")
     ran = room.call(["bash", "-c", '"$@" | true; exit "${PIPESTATUS[0]}"', "bash", *words])
     yield Outcome("it goes on", (ran.status, ran.errors), (3, b"test: done\n"))
+    ran = room.call(["bash", "-c", '"$@" >&-', "bash", *words])
+    yield Outcome("closed from the beginning", (ran.status, ran.errors), (3, b"test: done\n"))
 
 
 def signals(room: Room) -> Iterator[Outcome]:

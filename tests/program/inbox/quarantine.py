@@ -10,7 +10,7 @@ from onixdesk_shop.shop_json import Shop
 from tests.program.inbox.files import inbox_in
 from tests.program.room import Room
 from tests.running import Outcome
-from tests.shop.feeds import Book, feed
+from tests.shop.feeds import Book, feed, supply
 from tests.shop.inboxes import SHOP, FakeInbox
 
 BOOKS = [Book(number) for number in range(40)]
@@ -94,6 +94,43 @@ def each_kind(room: Room) -> Iterator[Outcome]:
     yield Outcome("a hundredfold in the third", inbox.states()["third.xml"], "quarantined")
     found = inbox.work(lambda each: [kind.quantity for kind in comparing.kinds_of(each, {})])
     yield Outcome("quantities", sorted({*found}), [1, 5, 10, 50])
+
+
+def several_offers(room: Room) -> Iterator[Outcome]:
+    """Of an article with two offers both are compared, and prices without an amount count once they are deleted."""
+
+    def two(kept: str, changed: str) -> str:
+        text = feed(1 if changed == "20.00" else 2, [replace(book, price=changed) for book in BOOKS])
+        return text.replace("</Product>", f"{supply(Book(0, price=kept))}</Product>")
+
+    for kept, after in ("10.00", "2000.00"), ("30.00", "0.20"):
+        inbox = inbox_in(room, f"two offers {after}", program=room.program)
+        inbox.take("first.xml", two(kept, "20.00"))
+        inbox.take("second.xml", two(kept, after))
+        yield Outcome(f"one of two offers at {after}", inbox.states()["second.xml"], "quarantined")
+    inbox = inbox_in(room, "unpriced", program=room.program)
+    inbox.take("first.xml", feed(1, all_with(price="")))
+    inbox.take("second.xml", feed(2, all_with(kind="05")))
+    yield Outcome("unpriced articles are deleted", inbox.states()["second.xml"], "quarantined")
+
+
+def kinds_that_the_file_combines(room: Room) -> Iterator[Outcome]:
+    """Not all currencies with all countries: of many markets with their own currency each is compared."""
+    places = [("GB", "GBP"), *((country, "EUR") for country in "IE DE FR NL BE ES IT PT AT".split()), ("US", "USD")]
+
+    def all_places(number: int, price: str) -> str:
+        text = feed(number, BOOKS)
+        more = "".join(
+            supply(Book(0, price if money == "USD" else "10.00", country=place, currency=money))
+            for place, money in places[1:]
+        )
+        return text.replace("</Product>", f"{more}</Product>")
+
+    inbox = inbox_in(room, "combined", program=room.program)
+    inbox.shop = replace(SHOP, quantities=[1, 10, 25])
+    inbox.take("first.xml", all_places(1, "12.00"))
+    inbox.take("second.xml", all_places(2, "1200.00"))
+    yield Outcome("a hundredfold in the last market", inbox.states()["second.xml"], "quarantined")
 
 
 def few_deletions_of_many(room: Room) -> Iterator[Outcome]:

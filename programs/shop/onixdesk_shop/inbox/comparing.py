@@ -209,9 +209,7 @@ def offers_in(answer: Records) -> dict[tuple[str, str], Spans]:
     return dict(found)
 
 
-def compare(
-    findings: Findings, isbn: str, spans: list[tuple[Spans, Spans]], makes_record: bool, is_gone: bool
-) -> None:
+def compare(findings: Findings, isbn: str, spans: list[tuple[Spans, Spans]], makes_record: bool, is_gone: bool) -> None:
     """Adds the differences of a reference to the findings: its spans before and after the file, of each kind."""
     if not any(before for before, _ in spans):
         if makes_record:

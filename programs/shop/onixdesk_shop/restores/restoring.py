@@ -107,7 +107,9 @@ class Restore:
             had -= {(inbox.series, number) for number in {*again.numbers, *again.refused}}
         for folder in self.machine.paths(self.inboxes_folder, "*/"):
             if is_lost(self.machine, folder) and folder.name not in [inbox.series for inbox in inboxes]:
-                said.append(f"{folder.name}: its ledger is gone, and the copy lacks it: it takes nothing until it is back")
+                said.append(
+                    f"{folder.name}: its ledger is gone, and the copy lacks it: it takes nothing until it is back"
+                )
         for name in sorted({name for name, _ in had}):
             numbers = sorted(number for series, number in had if series == name)
             lost.append(f"{name}: no inbox has {ranges(numbers)}, which the copy lacks")

@@ -56,7 +56,7 @@ def call(parser: argparse.ArgumentParser, work: Callable[[Machine, argparse.Name
     terminal that hangs up."""
     options = parser.parse_args()
     os.umask(0o077)
-    for number in (signal.SIGTERM, signal.SIGHUP):
+    for number in (signal.SIGINT, signal.SIGTERM, signal.SIGHUP):
         signal.signal(number, lambda number, _: sys.exit(128 + number))
     if options.goes_on:
         signal.signal(signal.SIGHUP, signal.SIG_IGN)
@@ -75,8 +75,6 @@ def status_of(machine: Machine, work: Callable[[Machine], int]) -> int:
     except OSError as error:
         machine.tell(ERROR, f"{error.filename or 'the system'}: {error.strerror or error}")
         return FAULT
-    except KeyboardInterrupt:
-        return 128 + signal.SIGINT
     except Exception:
         for line in traceback.format_exc().splitlines():
             machine.tell(ERROR, line)

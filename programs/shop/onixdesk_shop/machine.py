@@ -185,8 +185,7 @@ class Machine:
             connection = sqlite3.connect(path, isolation_level=None)
             connection.execute("PRAGMA journal_mode=WAL")
         except sqlite3.DatabaseError as error:
-            remedy = "" if isinstance(error, sqlite3.OperationalError) else "desk-restore COPY, once it is moved away; "
-            raise Fault(f"{remedy}{path}: {error}") from None
+            raise Fault(f"{path}: {error}; if it is damaged: desk-restore COPY, once it is moved away") from None
         connection.execute("PRAGMA synchronous=FULL")
         connection.execute("PRAGMA foreign_keys=ON")
         if schema and not connection.execute("SELECT count(*) FROM sqlite_schema").fetchone()[0]:

@@ -48,6 +48,12 @@ class Product:
         return len(self.records) > 1
 
     @property
+    def suppliers(self) -> set[tuple[str, ...]]:
+        """By type and identifier, or else by name."""
+        details = [record for record in self.records if record[0] == "SupplyDetail"]
+        return {tuple(record[2:4]) if record[2] else (record[4],) for record in details}
+
+    @property
     def isbns(self) -> list[str]:
         """The ISBNs by which the desk finds it, each once."""
         pairs = self.records[0][3:]

@@ -267,9 +267,12 @@ def begins_again(room: Room) -> Iterator[Outcome]:
 
 
 def said_of_products(room: Room) -> Iterator[Outcome]:
-    """An update of a record that the desk lacks is a warning."""
+    """Offers of several suppliers, and an update of a record that the desk lacks, are a warning."""
     inbox = inbox_in(room, "said")
-    lines = inbox.take("gone.csv", message_of(1, [product_of("R2", "-", None)]))
+    records = message_of(1, [product_of("R1", "1.00", None) + [["SupplyDetail", "04", "", "", "South", "21", ""]]])
+    lines = inbox.take("two.csv", records)
+    yield Outcome("several suppliers", lines[0].partition(":")[0], "2 suppliers")
+    lines = inbox.take("gone.csv", message_of(2, [product_of("R2", "-", None)]))
     yield Outcome("what is not there", lines[0].partition(":")[0], "1 change of records that the desk lacks")
 
 

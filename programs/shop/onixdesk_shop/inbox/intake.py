@@ -46,7 +46,6 @@ def take_entry(inbox: Inbox, entry: Entry) -> None:
     elif Path(name).suffix not in ENDINGS:
         why = f"it does not end in {', '.join(ENDINGS)}"
     elif -HOUR < inbox.machine.now() - entry.changed / 1e9 < inbox.settings.unchanged_seconds:
-        # The clock of a file server may be ahead. If it is by more, ours was, before it was set right.
         return
     else:
         why = take_file(inbox, entry)

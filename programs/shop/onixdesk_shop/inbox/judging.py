@@ -16,7 +16,7 @@ from onixdesk_shop.inbox.context import Inbox
 from onixdesk_shop.inbox.ledger import STANDING, File, Message, Row, State
 from onixdesk_shop.inbox.posting import REASONS, begin_again, give_back, judge_anew, offset_for, why_refused
 from onixdesk_shop.inbox.quarantine import Quarantine
-from onixdesk_shop.lines import ERROR, NOTICE, cut, ranges
+from onixdesk_shop.lines import ERROR, NOTICE, WARNING, cut, ranges
 from onixdesk_shop.messages import header_of, is_message, products_of
 from onixdesk_shop.places import WORK
 
@@ -128,12 +128,17 @@ def message_of(inbox: Inbox, text: bytes) -> Message:
 def look_at(inbox: Inbox, feed: Feed, gaps: Gaps) -> None:
     """Counts its products. Refusal if one ISBN has too many records, or the desk does not take a number any more."""
     records: Counter[str] = Counter()
+    suppliers: set[tuple[str, ...]] = set()
     for message in feed.messages:
         for product in products_of(message.text):
             feed.products += 1
             feed.bare += product.is_block and not product.has_supply
+            suppliers |= product.suppliers
             if not product.is_deletion:
                 records.update(product.isbns)
+    if len(suppliers) > 1 and not any(word.startswith("--supplier") for word in feed.words):
+        said = f"{len(suppliers)} suppliers: ask the wholesaler for its own offers (--supplier TYPE,VALUE in WORDS)"
+        inbox.tell_file(WARNING, feed.file, said)
     for isbn, most in records.most_common(1):
         if most > MOST_RECORDS_OF_ONE_ISBN:
             raise Refusal(f"{most} of its records have the ISBN {isbn}, and {MOST_RECORDS_OF_ONE_ISBN} may")

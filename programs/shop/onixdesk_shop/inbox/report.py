@@ -45,7 +45,6 @@ def lines(inbox: Inbox) -> Iterator[str]:
         yield f"{file.mark}: {file.state} since {moment(file.at)}: {cut(file.why) or '-'}; {token(file.name)}"
     yield from not_alike(inbox, gaps)
     yield from not_named(inbox)
-    # Last, since it ends the report if the file cannot be read.
     yield from not_verified(inbox)
 
 

@@ -9,7 +9,6 @@ from onixdesk_shop.copies.keeping import CORRECTIONS, corrections_in, correction
 from onixdesk_shop.desk_files import Contents, DeskFile, check, contents_of, log_of
 from onixdesk_shop.ends import program_of
 from onixdesk_shop.faults import Failed, Fault
-from onixdesk_shop.inbox.ledger import is_lost
 from onixdesk_shop.lines import ERROR, NOTICE, WARNING, cut, ranges, shown
 from onixdesk_shop.machine import Machine
 from onixdesk_shop.places import INBOXES, LEDGER, LEDGERS
@@ -91,8 +90,8 @@ class Restore:
         """What is posted again, and what is lost, in lines."""
         reports, said, lost = self.desk.gaps(), [], []
         refusal = "onixdesk-inbox --refuse {} {};".format(*self.options.refuse or ("", ""))
-        had, inboxes = present.beyond(self.base).messages, self.inboxes()
-        for inbox in inboxes:
+        had = present.beyond(self.base).messages
+        for inbox in self.inboxes():
             gaps = reports.get(inbox.series)
             if gaps is None:
                 said.append(f"{inbox.agreement()}; is missing in the copy, and the files of {inbox.series} wait")
@@ -105,11 +104,6 @@ class Restore:
             if again.gone:
                 lost.append(f"{inbox.series}: the texts of {ranges(again.gone)} are not kept any more")
             had -= {(inbox.series, number) for number in {*again.numbers, *again.refused}}
-        for folder in self.machine.paths(self.inboxes_folder, "*/"):
-            if is_lost(self.machine, folder) and folder.name not in [inbox.series for inbox in inboxes]:
-                said.append(
-                    f"{folder.name}: its ledger is gone, and the copy lacks it: it takes nothing until it is back"
-                )
         for name in sorted({name for name, _ in had}):
             numbers = sorted(number for series, number in had if series == name)
             lost.append(f"{name}: no inbox has {ranges(numbers)}, which the copy lacks")

@@ -1,7 +1,6 @@
 """A restored copy: what is said before, what is made again, and what the inboxes post."""
 
 import argparse
-import json
 import os
 import shutil
 import sqlite3
@@ -256,22 +255,6 @@ def log_of_a_lost_ledger(room: Room) -> Iterator[Outcome]:
     log.write_bytes(data)
     yield Outcome("the status", run(shop, copy, gaps=True), 0)
     yield Outcome("it knows what the copy knew", [file.why for file in shop.inbox.files()], [""])
-
-
-def titles(room: Room) -> Iterator[Outcome]:
-    """On a new machine the page has the titles of the copy."""
-    shop = shop_in(room, "titles")
-    copy = four_days(shop)
-    folder = shop.inbox.places.state / "titles"
-    for path in *shop.inbox.ledger.parent.rglob("*.*"), shop.database:
-        path.unlink()
-    shutil.rmtree(folder)
-    shop.inbox.desk = None
-    yield Outcome("the status", run(shop, copy), 0)
-    shop.inbox.run()
-    isbn = isbn_of("R1")
-    entries = json.loads((folder / isbn[:5] / f"{isbn[:8]}.json").read_text())[isbn]
-    yield Outcome("as the first feed said", [[*entry[:2], entry[3]] for entry in entries], [[SERIES, 1, "Title R1"]])
 
 
 def corrections(room: Room) -> Iterator[Outcome]:

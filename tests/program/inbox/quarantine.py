@@ -84,53 +84,32 @@ def for_whom_the_last_feed_was(room: Room) -> Iterator[Outcome]:
             yield Outcome(f"{name}, {case}", state, "quarantined")
 
 
-def each_kind(room: Room) -> Iterator[Outcome]:
-    """Each country of the file is compared, and each quantity of desk.json."""
-    books = [replace(book, country=("GB", "US", "AU")[book.number % 3]) for book in BOOKS]
-    inbox, _ = behind_a_first_feed(room, "three countries", books, replace(SHOP, quantities=[1, 5, 10, 50]))
-    inbox.decide("let-in", "second.xml")
-    prices = {"GB": "10.00", "US": "10.00", "AU": "1000.00"}
-    inbox.take("third.xml", feed(3, [replace(book, price=prices[book.country]) for book in books]))
-    yield Outcome("a hundredfold in the third", inbox.states()["third.xml"], "quarantined")
+def several_supplies(room: Room) -> Iterator[Outcome]:
+    """Of an article with two offers both are compared; of several markets, each with its own currency; and for each
+    quantity of desk.json."""
+    markets = [Book(0, country=country, currency="EUR") for country in "IE DE FR NL BE ES IT PT AT".split()]
+    for name, others, first, second in (
+        ("the dearer of two offers", [], "20.00", "2000.00"),
+        ("the cheaper of two offers", [], "9.00", "0.09"),
+        ("in the last of many markets", markets, "12.00", "1200.00"),
+    ):
+        inbox = inbox_in(room, name.replace(" ", "-"), program=room.program)
+        inbox.shop = replace(SHOP, quantities=[1, 10, 25])
+        for number, price in enumerate((first, second), 1):
+            last = Book(0, price=price, **({"country": "US", "currency": "USD"} if others else {}))
+            supplies = "".join(map(supply, [*others, last]))
+            inbox.take(f"{number}.xml", feed(number, BOOKS).replace("</Product>", f"{supplies}</Product>"))
+        yield Outcome(name, inbox.states()["2.xml"], "quarantined")
     found = inbox.work(lambda each: [kind.quantity for kind in comparing.kinds_of(each, {})])
-    yield Outcome("quantities", sorted({*found}), [1, 5, 10, 50])
+    yield Outcome("quantities", sorted({*found}), [1, 10, 25])
 
 
-def several_offers(room: Room) -> Iterator[Outcome]:
-    """Of an article with two offers both are compared, and prices without an amount count once they are deleted."""
-
-    def two(kept: str, changed: str) -> str:
-        text = feed(1 if changed == "20.00" else 2, [replace(book, price=changed) for book in BOOKS])
-        return text.replace("</Product>", f"{supply(Book(0, price=kept))}</Product>")
-
-    for kept, after in ("10.00", "2000.00"), ("30.00", "0.20"):
-        inbox = inbox_in(room, f"two offers {after}", program=room.program)
-        inbox.take("first.xml", two(kept, "20.00"))
-        inbox.take("second.xml", two(kept, after))
-        yield Outcome(f"one of two offers at {after}", inbox.states()["second.xml"], "quarantined")
+def unpriced(room: Room) -> Iterator[Outcome]:
+    """Articles without a price that are deleted count too."""
     inbox = inbox_in(room, "unpriced", program=room.program)
-    inbox.take("first.xml", feed(1, all_with(price="")))
-    inbox.take("second.xml", feed(2, all_with(kind="05")))
-    yield Outcome("unpriced articles are deleted", inbox.states()["second.xml"], "quarantined")
-
-
-def kinds_that_the_file_combines(room: Room) -> Iterator[Outcome]:
-    """Not all currencies with all countries: of many markets with their own currency each is compared."""
-    places = [("GB", "GBP"), *((country, "EUR") for country in "IE DE FR NL BE ES IT PT AT".split()), ("US", "USD")]
-
-    def all_places(number: int, price: str) -> str:
-        text = feed(number, BOOKS)
-        more = "".join(
-            supply(Book(0, price if money == "USD" else "10.00", country=place, currency=money))
-            for place, money in places[1:]
-        )
-        return text.replace("</Product>", f"{more}</Product>")
-
-    inbox = inbox_in(room, "combined", program=room.program)
-    inbox.shop = replace(SHOP, quantities=[1, 10, 25])
-    inbox.take("first.xml", all_places(1, "12.00"))
-    inbox.take("second.xml", all_places(2, "1200.00"))
-    yield Outcome("a hundredfold in the last market", inbox.states()["second.xml"], "quarantined")
+    inbox.take("1.xml", feed(1, all_with(price="")))
+    inbox.take("2.xml", feed(2, all_with(kind="05")))
+    yield Outcome("all deleted", inbox.states()["2.xml"], "quarantined")
 
 
 def few_deletions_of_many(room: Room) -> Iterator[Outcome]:

@@ -65,16 +65,12 @@ pub(crate) fn names_world(text: &[u8]) -> bool
     false
 }
 
-fn is_capital_or_digit(byte: u8) -> bool
-    ensures { result ≡ is_capital_or_digit byte }
-{
-    byte.is_ascii_uppercase() || byte.is_ascii_digit()
-}
-
 fn are_capitals_or_digits(bytes: &[u8]) -> bool
     ensures { result ≡ list_all is_capital_or_digit bytes.now }
 {
-    bytes.iter().all(|byte| is_capital_or_digit(*byte))
+    bytes
+        .iter()
+        .all(|byte| byte.is_ascii_uppercase() || byte.is_ascii_digit())
 }
 
 // Whether a region is a part of a country.

@@ -90,16 +90,6 @@ fn country_as_region<'a>(area: &Area<'a>) -> Option<&'a [u8]>
     two_letters_in(area.regions_excluded)
 }
 
-// Whether a territory has no text.
-fn is_silent(area: &Area<'_>) -> bool
-    ensures { result ≡ is_silent (area_view area.now) }
-{
-    area.included.is_empty()
-        && area.regions_included.is_empty()
-        && area.excluded.is_empty()
-        && area.regions_excluded.is_empty()
-}
-
 // A reason for what the desk would not take, where there is a text that is one.
 fn because<'a>(kind: Wrong, text: Option<&'a [u8]>) -> Option<Reason<'a>>
     ensures { reason_read result ≡ option_map (wrong kind) (text_view text.entry) }
@@ -116,7 +106,11 @@ fn empty_reason(area: &Area<'_>) -> Option<Reason<'static>>
         ≡ (if is_some (area_view area.now).territory && is_silent (area_view area.now)
         then Some (wrong bad.EmptyTerritory []) else None) }
 {
-    if area.line.is_some() && is_silent(area) {
+    let is_silent = area.included.is_empty()
+        && area.regions_included.is_empty()
+        && area.excluded.is_empty()
+        && area.regions_excluded.is_empty();
+    if area.line.is_some() && is_silent {
         Some(Reason::wrong(Wrong::EmptyTerritory, b""))
     } else {
         None

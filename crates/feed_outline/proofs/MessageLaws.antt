@@ -8,7 +8,6 @@ use Rattle.std.proofs.lemmas.List.Folds.{list_all-append}
 use Rattle.std.proofs.lemmas.Grind.{flat_map-append}
 use Rattle.feed_outline.specs.Names.{Word}
 use Rattle.feed_xml.specs.declared.fault.Fault.{Fault as DocumentFault}
-use Rattle.feed_xml.specs.declared.place.Tail.TheVariants.{Text}
 use Rattle.feed_xml.specs.declared.fault.Fault.TheVariants.{Malformed, NotText, TooDeep, TooLong, LargeTag, Refused, UnknownEncoding, Read, Memory}
 use Rattle.feed_xml.specs.Grammar.{Token, is_token, spelling}
 use Rattle.feed_xml.specs.Faults.{GoesTo, Tells}
@@ -51,7 +50,7 @@ pub record Comes (vocabulary : List Word) {T : Type 0} (after : T → List Line 
 all_tokens : (bytes : Option (List ℕ)) (text : List ℕ) (tokens : List Token) → IsTextOf bytes text → IsDocument text tokens → OfText (BeginsWith tokens) bytes
 all_tokens None text tokens is document = tt
 all_tokens (Some b) text tokens is document =
-    (text, is, ([], document.spelled ∙ sym (append-nil (flat_map spelling tokens)), document.are.each, tails_in tokens (Text 0) (Text 0) document.are.apart, tt))
+    (text, is, ([], document.spelled ∙ sym (append-nil (flat_map spelling tokens)), document.are.each, tails_in tokens _ _ document.are.apart, tt))
 
 -- what holds of tokens holds of a text that begins with them
 holds_there : (Limit : Bound) (tokens : List Token) (bytes : Option (List ℕ)) → ((rest : List ℕ) → Limit tokens rest) → OfText (BeginsWith tokens) bytes → OfText (Meets Limit tokens) bytes

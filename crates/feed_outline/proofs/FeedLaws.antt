@@ -7,9 +7,9 @@ use Rattle.std.proofs.lemmas.Bool.{and_parts}
 use Rattle.std.proofs.lemmas.List.Folds.{list_all-append}
 use Rattle.std.proofs.lemmas.List.Sums.{fold-append}
 use Rattle.feed_outline.specs.Names.{Word}
-use Rattle.feed_xml.specs.Grammar.{Attribute, Token, raw, reference, opening, bracket, cdata, comment, instruction, declaration, doctype, start, empty, end}
+use Rattle.feed_xml.specs.Grammar.{Token, raw, cdata, comment, instruction, declaration, doctype, end}
 use Rattle.feed_xml.specs.Tree.{Content, nothing, leaf, element, tokens_of, HasLeaves}
-use Rattle.feed_xml.specs.Trees.{IsMisc, AreTyped, IsProlog, IsRoot, IsTree}
+use Rattle.feed_xml.specs.Trees.{IsMisc, IsProlog, IsRoot, IsTree}
 use Rattle.feed_outline.specs.declared.dialect.Wrong.{Wrong}
 use Rattle.feed_outline.specs.Dialect.{Dialect, counted}
 use Rattle.feed_outline.specs.Namespaces.{Binding, scope, bindings_of}
@@ -20,6 +20,7 @@ use Rattle.feed_outline.specs.Sizes.{element_size, has_large, is_small, lines_si
 use Rattle.feed_outline.specs.Spaces.{collapsed}
 use Rattle.feed_outline.specs.private.Feed.{Feed, feeding, handed, settled, spoken, feed, feed_said, first_feed}
 use Rattle.feed_outline.specs.Roots.{root_in, root_of}
+use Rattle.feed_xml.proofs.KindLaws.{all_misc, all_prolog, by_misc, by_root}
 use Rattle.feed_outline.proofs.ChangeLaws.{longer-nil, longer-append}
 use Rattle.feed_outline.proofs.InsideLaws.{IsClean, by_leaf, clean, inside_at, root_inside, passes}
 
@@ -118,116 +119,32 @@ root_feeds vocabulary after t d (element name attributes space inside closing re
 
 -- ---- around the root
 
--- what may stand outside of the root changes nothing
-abbrev pub IsQuiet : Token → Type 0
-IsQuiet (raw b) = Unit {0}
-IsQuiet (comment body) = Unit {0}
-IsQuiet (instruction body) = Unit {0}
-IsQuiet (declaration body) = Unit {0}
-IsQuiet (doctype body) = Unit {0}
-IsQuiet other = ⊥
-
-pub quiet_misc : (token : Token) → IsMisc token → IsQuiet token
-quiet_misc (raw b) h = tt
-quiet_misc (comment body) h = tt
-quiet_misc (instruction body) h = tt
-quiet_misc (declaration body) h = absurd h
-quiet_misc (doctype body) h = absurd h
-quiet_misc (reference body) h = absurd h
-quiet_misc opening h = absurd h
-quiet_misc (bracket count) h = absurd h
-quiet_misc (cdata count byte) h = absurd h
-quiet_misc (start name attributes space) h = absurd h
-quiet_misc (empty name attributes space) h = absurd h
-quiet_misc (end name space) h = absurd h
-
-pub all_quiet : (P : Token → Type 0) → ((token : Token) → P token → IsQuiet token) → (tokens : List Token) → AllByRecursion P tokens → AllByRecursion IsQuiet tokens
-all_quiet P f [] h = tt
-all_quiet P f (token ∷ tokens) h = (f token h.0, all_quiet P f tokens h.1)
-
-quiet_typed : (tokens : List Token) → AreTyped tokens → AllByRecursion IsQuiet tokens
-quiet_typed [] h = tt
-quiet_typed (doctype body ∷ tokens) h = (tt, all_quiet IsMisc quiet_misc tokens h)
-quiet_typed (raw b ∷ tokens) h = (tt, quiet_typed tokens h.1)
-quiet_typed (comment body ∷ tokens) h = (tt, quiet_typed tokens h.1)
-quiet_typed (instruction body ∷ tokens) h = (tt, quiet_typed tokens h.1)
-quiet_typed (declaration body ∷ tokens) h = absurd h.0
-quiet_typed (reference body ∷ tokens) h = absurd h.0
-quiet_typed (opening ∷ tokens) h = absurd h.0
-quiet_typed (bracket count ∷ tokens) h = absurd h.0
-quiet_typed (cdata count byte ∷ tokens) h = absurd h.0
-quiet_typed (start name attributes space ∷ tokens) h = absurd h.0
-quiet_typed (empty name attributes space ∷ tokens) h = absurd h.0
-quiet_typed (end name space ∷ tokens) h = absurd h.0
-
-pub quiet_prolog : (tokens : List Token) → IsProlog tokens → AllByRecursion IsQuiet tokens
-quiet_prolog [] h = tt
-quiet_prolog (declaration body ∷ tokens) h = (tt, quiet_typed tokens h)
-quiet_prolog (doctype body ∷ tokens) h = quiet_typed (doctype body ∷ tokens) h
-quiet_prolog (raw b ∷ tokens) h = quiet_typed (raw b ∷ tokens) h
-quiet_prolog (comment body ∷ tokens) h = quiet_typed (comment body ∷ tokens) h
-quiet_prolog (instruction body ∷ tokens) h = quiet_typed (instruction body ∷ tokens) h
-quiet_prolog (reference body ∷ tokens) h = absurd h.0
-quiet_prolog (opening ∷ tokens) h = absurd h.0
-quiet_prolog (bracket count ∷ tokens) h = absurd h.0
-quiet_prolog (cdata count byte ∷ tokens) h = absurd h.0
-quiet_prolog (start name attributes space ∷ tokens) h = absurd h.0
-quiet_prolog (empty name attributes space ∷ tokens) h = absurd h.0
-quiet_prolog (end name space ∷ tokens) h = absurd h.0
-
--- it is text, in which all stands for something
-pub record Hushed (token : Token) : Type 0 where
+-- what may stand outside of the root is text, in which all stands for something
+pub record IsQuiet (token : Token) : Type 0 where
   pub says : said token ≡ speaks (token_text token) (is_known token)
   pub known : is_known token ≡ true
 
-hush : (token : Token) → said token ≡ speaks (token_text token) (is_known token) → is_known token ≡ true → Hushed token
-hush token says known = record { says = says; known = known }
+quiet : (token : Token) → said token ≡ speaks (token_text token) (is_known token) → is_known token ≡ true → IsQuiet token
+quiet token says known = record { says = says; known = known }
 
-pub hushed : (token : Token) → IsQuiet token → Hushed token
-hushed (raw b) h = hush (raw b) refl refl
-hushed (comment body) h = hush (comment body) refl refl
-hushed (instruction body) h = hush (instruction body) refl refl
-hushed (declaration body) h = hush (declaration body) refl refl
-hushed (doctype body) h = hush (doctype body) refl refl
-hushed (reference body) h = absurd h
-hushed opening h = absurd h
-hushed (bracket count) h = absurd h
-hushed (cdata count byte) h = absurd h
-hushed (start name attributes space) h = absurd h
-hushed (empty name attributes space) h = absurd h
-hushed (end name space) h = absurd h
+quiet_misc : (token : Token) → IsMisc token → IsQuiet token
+quiet_misc = by_misc IsQuiet (λ b h. quiet (raw b) refl refl) (λ body. quiet (comment body) refl refl) (λ body. quiet (instruction body) refl refl)
+
+pub quiet_prolog : (tokens : List Token) → IsProlog tokens → AllByRecursion IsQuiet tokens
+quiet_prolog = all_prolog IsQuiet quiet_misc (λ body. quiet (doctype body) refl refl) (λ body. quiet (declaration body) refl refl)
 
 pub misc_before : (vocabulary : List Word) {T : Type 0} (after : T → List Line → T) (t : T) (tokens : List Token) → AllByRecursion IsQuiet tokens → fold (feed vocabulary after) (first_feed t) tokens ≡ first_feed t
 misc_before vocabulary after t [] h = refl
-misc_before vocabulary after t (token ∷ tokens) h = ap (λ f. fold (feed vocabulary after) f tokens) (ap (feed_said vocabulary after (first_feed t)) (hushed token h.0).says) ∙ misc_before vocabulary after t tokens h.1
+misc_before vocabulary after t (token ∷ tokens) h = ap (λ f. fold (feed vocabulary after) f tokens) (ap (feed_said vocabulary after (first_feed t)) h.0.says ∙ ap (λ b. feeding t None no_lines (b && true)) h.0.known) ∙ misc_before vocabulary after t tokens h.1
 
 misc_behind : (vocabulary : List Word) {T : Type 0} (after : T → List Line → T) (t : T) (d : Dialect) (tokens : List Token) → AllByRecursion IsQuiet tokens
     → fold (feed vocabulary after) (inside_at t d [] [] 0) tokens ≡ inside_at t d [] [] 0
 misc_behind vocabulary after t d [] h = refl
-misc_behind vocabulary after t d (token ∷ tokens) h = ap (λ f. fold (feed vocabulary after) f tokens) (speaks_outside vocabulary after t d token (hushed token h.0).says (hushed token h.0).known) ∙ misc_behind vocabulary after t d tokens h.1
+misc_behind vocabulary after t d (token ∷ tokens) h = ap (λ f. fold (feed vocabulary after) f tokens) (speaks_outside vocabulary after t d token h.0.says h.0.known) ∙ misc_behind vocabulary after t d tokens h.1
 
 pub misc_root : (before tokens : List Token) → AllByRecursion IsQuiet before → root_of (before ++ tokens) ≡ root_of tokens
 misc_root [] tokens h = refl
-misc_root (token ∷ before) tokens h = ap (λ s. option_or (root_in s) (root_of (before ++ tokens))) (hushed token h.0).says ∙ misc_root before tokens h.1
-
--- a root begins with its tag
-pub by_root : (name : List ℕ) (inside : Content) (P : List Token → Type 0)
-    → ((n : List ℕ) (attributes : List Attribute) (space : List ℕ) (tokens : List Token) → IsRoot (start n attributes space ∷ tokens) name inside → P (start n attributes space ∷ tokens))
-    → ((n : List ℕ) (attributes : List Attribute) (space : List ℕ) (tokens : List Token) → IsRoot (empty n attributes space ∷ tokens) name inside → P (empty n attributes space ∷ tokens))
-    → (root : List Token) → IsRoot root name inside → P root
-by_root name inside P f g [] r = absurd r
-by_root name inside P f g (start n attributes space ∷ tokens) r = f n attributes space tokens r
-by_root name inside P f g (empty n attributes space ∷ tokens) r = g n attributes space tokens r
-by_root name inside P f g (raw b ∷ tokens) r = absurd r
-by_root name inside P f g (reference body ∷ tokens) r = absurd r
-by_root name inside P f g (opening ∷ tokens) r = absurd r
-by_root name inside P f g (bracket count ∷ tokens) r = absurd r
-by_root name inside P f g (cdata count byte ∷ tokens) r = absurd r
-by_root name inside P f g (comment body ∷ tokens) r = absurd r
-by_root name inside P f g (instruction body ∷ tokens) r = absurd r
-by_root name inside P f g (declaration body ∷ tokens) r = absurd r
-by_root name inside P f g (doctype body ∷ tokens) r = absurd r
-by_root name inside P f g (end n space ∷ tokens) r = absurd r
+misc_root (token ∷ before) tokens h = ap (λ s. option_or (root_in s) (root_of (before ++ tokens))) h.0.says ∙ misc_root before tokens h.1
 
 -- ---- a document
 
@@ -268,7 +185,7 @@ pub tree_feeds : (vocabulary : List Word) {T : Type 0} (after : T → List Line 
 tree_feeds vocabulary after t d tokens name inside tree e k small =
     let root = tree.root ++ tree.behind in
     let before = quiet_prolog tree.before tree.prolog in
-    let behind = all_quiet IsMisc quiet_misc tree.behind tree.misc in
+    let behind = all_misc IsQuiet quiet_misc tree.behind tree.misc in
     let told : root_of root ≡ Some (Ok d) = sym (misc_root tree.before root before) ∙ ap root_of (sym tree.parts) ∙ e in
     let known : list_all is_known root ≡ true =
     (and_parts (list_all is_known tree.before) (list_all is_known root) (sym (list_all-append is_known tree.before root) ∙ ap (list_all is_known) (sym tree.parts) ∙ k)).1 in

@@ -6,7 +6,6 @@ pub mod FeedLaws
 pub mod RefusalLaws
 pub mod LargeLaws
 pub mod TreeLaws
-pub mod KnownLaws
 pub mod MessageLaws
 pub mod OutlineLaws
 pub mod Counts

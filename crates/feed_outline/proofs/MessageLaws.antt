@@ -1,6 +1,6 @@
 -- What comes of the tokens of a document.
 use Rattle.std.proofs.Common.{◌≡◌, ℕ, Bool, true, false, List, [], Option, Some, None, Result, Ok, Err, refl, sym, ap, ◌∙◌, append-nil, append_assoc, ◌++◌, ◌∷◌, fold, subst}
-use Rattle.std.specs.Prelude.{IfOk, IfErr}
+use Rattle.std.specs.Prelude.{IfOk, IfErr, ◌&&◌}
 use Rattle.std.specs.List.{flat_map, list_all}
 use Rattle.std.proofs.lemmas.Bool.{and_parts}
 use Rattle.std.proofs.lemmas.List.Concat.{flat_map-cons}
@@ -11,11 +11,12 @@ use Rattle.feed_xml.specs.declared.fault.Fault.{Fault as DocumentFault}
 use Rattle.feed_xml.specs.declared.fault.Fault.TheVariants.{Malformed, NotText, TooDeep, TooLong, LargeTag, Refused, UnknownEncoding, Read, Memory}
 use Rattle.feed_xml.specs.Grammar.{Token, is_token, spelling}
 use Rattle.feed_xml.specs.Faults.{GoesTo, Tells}
-use Rattle.feed_xml.specs.Documents.{AreFront, IsDocument}
+use Rattle.feed_xml.specs.Documents.{IsDocument}
 use Rattle.feed_xml.specs.EncodingNames.{IsTextOf, OfText}
 use Rattle.feed_xml.specs.Limits.{BeginsWith, Bound, Follows, Meets}
+use Rattle.feed_xml.specs.Sections.{AreIn, section_behind}
 use Rattle.feed_xml.specs.Tree.{Content}
-use Rattle.feed_xml.specs.Trees.{AreDocument, IsTree}
+use Rattle.feed_xml.specs.Trees.{IsTree}
 use Rattle.feed_outline.specs.declared.dialect.Wrong.{Wrong}
 use Rattle.feed_outline.specs.declared.message_reading.Fault.TheVariants.{Document}
 use Rattle.feed_outline.specs.declared.message_reading.Stopped.{Stopped}
@@ -29,9 +30,10 @@ use Rattle.feed_outline.specs.Faults.{Explains, IsRefusedRoot, IsTooLarge, IsUnk
 use Rattle.feed_outline.specs.private.Reasons.{RefusesReference, RefusesRoot}
 use Rattle.feed_outline.specs.private.Finishing.{finished, finished_with}
 use Rattle.feed_outline.specs.Message.{IsMessage}
-use Rattle.feed_outline.proofs.FeedLaws.{tree_feeds}
-use Rattle.feed_outline.proofs.KnownLaws.{has_root, known_front, known_tree}
-use Rattle.feed_outline.proofs.RefusalLaws.{Finds, finds_root, finds_unknown, roots}
+use Rattle.feed_xml.proofs.PlaceLaws.{tails_in}
+use Rattle.feed_xml.proofs.KindLaws.{by_root}
+use Rattle.feed_outline.proofs.FeedLaws.{misc_root, quiet_prolog, tree_feeds}
+use Rattle.feed_outline.proofs.RefusalLaws.{Finds, finds_root, finds_unknown, known_all, roots}
 use Rattle.feed_outline.proofs.TreeLaws.{is_large, tree_kept}
 
 -- a message was read
@@ -44,19 +46,24 @@ pub record Comes (vocabulary : List Word) {T : Type 0} (after : T → List Line 
   pub ok : IfOk result (Reads vocabulary after taker bytes)
   pub refused : IfErr result (λ s. Explains vocabulary bytes s.fault)
 
--- a document begins with all of its tokens
+-- a text begins with all of its tokens
 all_tokens : (bytes : Option (List ℕ)) (text : List ℕ) (tokens : List Token) → IsTextOf bytes text → IsDocument text tokens → OfText (BeginsWith tokens) bytes
 all_tokens None text tokens is document = tt
 all_tokens (Some b) text tokens is document =
-    (text, is, ([], document.spelled ∙ sym (append-nil (flat_map spelling tokens)), ([], subst AreDocument (sym (append-nil tokens)) document.are), tt))
+    (text, is, ([], document.spelled ∙ sym (append-nil (flat_map spelling tokens)), document.are.each, tails_in tokens _ _ document.are.apart, tt))
 
--- what holds of tokens with which a document begins holds of a text that begins with them
-holds_there : (Limit : Bound) (tokens : List Token) (bytes : Option (List ℕ)) → ((rest : List ℕ) → AreFront tokens → Limit tokens rest) → OfText (BeginsWith tokens) bytes → OfText (Meets Limit tokens) bytes
+-- what holds of tokens holds of a text that begins with them
+holds_there : (Limit : Bound) (tokens : List Token) (bytes : Option (List ℕ)) → ((rest : List ℕ) → Limit tokens rest) → OfText (BeginsWith tokens) bytes → OfText (Meets Limit tokens) bytes
 holds_there Limit tokens None holds begins = tt
 holds_there Limit tokens (Some b) holds begins =
-    let m = begins.2 in (begins.0, begins.1, (m.0, m.1, m.2, holds m.0 m.2))
+    let m = begins.2 in (begins.0, begins.1, (m.0, m.1, m.2, m.3, holds m.0))
 
 -- ---- tokens that are refused
+
+-- some of the tokens stand in the sections that those before leave open
+front_in : (section : Option ℕ) (before behind : List Token) → AreIn section (before ++ behind) → AreIn section before
+front_in section [] behind h = tt
+front_in section (token ∷ before) behind h = (h.0, front_in (section_behind token) before behind h.1)
 
 -- a text that begins with tokens begins with some of them, and then comes the next one
 begins_before : (Limit : Bound) (before behind tokens : List Token) (token : Token) (bytes : Option (List ℕ)) → tokens ≡ before ++ token ∷ behind → ((rest : List ℕ) → Follows token rest → Limit before rest)
@@ -65,20 +72,18 @@ begins_before Limit before behind tokens token None parts holds begins = tt
 begins_before Limit before behind tokens token (Some b) parts holds begins =
     let text = begins.0 in
     let rest = begins.2.0 in
-    let front = begins.2.2 in
     let later = flat_map spelling behind ++ rest in
     let spelled : flat_map spelling tokens ≡ flat_map spelling before ++ (spelling token ++ flat_map spelling behind) =
     ap (flat_map spelling) parts ∙ flat_map-append spelling before (token ∷ behind) ∙ ap (λ (l : List ℕ). flat_map spelling before ++ l) (flat_map-cons spelling token behind) in
     let whole : text ≡ flat_map spelling before ++ (spelling token ++ later) =
     begins.2.1 ∙ ap (λ (l : List ℕ). l ++ rest) spelled ∙ append_assoc (flat_map spelling before) (spelling token ++ flat_map spelling behind) rest
     ∙ ap (λ (l : List ℕ). flat_map spelling before ++ l) (append_assoc (spelling token) (flat_map spelling behind) rest) in
-    let all : tokens ++ front.0 ≡ before ++ (token ∷ (behind ++ front.0)) =
-    ap (λ (ts : List Token). ts ++ front.0) parts ∙ append_assoc before (token ∷ behind) front.0 in
-    let are : AreDocument (before ++ (token ∷ (behind ++ front.0))) = subst AreDocument all front.1 in
-    let each : list_all is_token (token ∷ (behind ++ front.0)) ≡ true =
-    (and_parts _ _ (sym (list_all-append is_token before (token ∷ (behind ++ front.0))) ∙ are.each)).1 in
-    let follows : Follows token (spelling token ++ later) = (later, refl, (and_parts _ _ each).0) in
-    (text, begins.1, (spelling token ++ later, whole, (token ∷ (behind ++ front.0), are), holds (spelling token ++ later) follows))
+    let each : (list_all is_token before && list_all is_token (token ∷ behind)) ≡ true =
+    sym (list_all-append is_token before (token ∷ behind)) ∙ ap (list_all is_token) (sym parts) ∙ begins.2.2 in
+    let good = and_parts _ _ each in
+    let follows : Follows token (spelling token ++ later) = (later, refl, (and_parts _ _ good.1).0) in
+    let within = front_in None before (token ∷ behind) (subst (AreIn None) parts begins.2.3) in
+    (text, begins.1, (spelling token ++ later, whole, good.0, within, holds (spelling token ++ later) follows))
 
 reason_of : (P : List Token → Token → Type 0) (Limit : Bound) → ((before : List Token) (token : Token) (rest : List ℕ) → P before token → Follows token rest → Limit before rest)
     → (bytes : Option (List ℕ)) (tokens : List Token) → OfText (BeginsWith tokens) bytes → Finds P tokens → GoesTo bytes Limit
@@ -102,9 +107,8 @@ refuses vocabulary {T = T} after taker bytes tokens begins refused = go f.root r
     root_is : f.root ≡ root_of tokens
     root_is = roots vocabulary after (first_feed taker) tokens
 
-    known_there : (d : Dialect) → root_of tokens ≡ Some (Ok d) → f.known ≡ true → (front : AreFront tokens) → list_all is_known tokens ≡ true
-    known_there d root known front =
-        let are = front.1 in known_front vocabulary after taker d tokens front.0 are.name are.inside are.tree root known
+    known_is : f.known ≡ list_all is_known tokens
+    known_is = known_all vocabulary after taker tokens
 
     go : (o : Option (Result Dialect Wrong)) → f.root ≡ o → (k : Bool) → f.known ≡ k → (small : Bool) → fits f.child ≡ small → takes_more_with o k small ≡ false
         → Comes vocabulary after taker bytes (finished_with o k small f)
@@ -114,15 +118,13 @@ refuses vocabulary {T = T} after taker bytes tokens begins refused = go f.root r
       refused = reason_of (RefusesRoot w) (IsRefusedRoot w) (at_root w) bytes tokens begins (finds_root tokens w (sym root_is ∙ e));
     }
     go (Some (Ok d)) e true known true size r = absurd cc
-    go (Some (Ok d)) e true known false size r =
-        let root = sym root_is ∙ e in
-        record {
-          ok = tt;
-          refused = (tokens, holds_there (IsTooLarge vocabulary) tokens bytes (λ rest front. is_large vocabulary after taker d tokens rest root (known_there d root known front) size) begins);
-        }
+    go (Some (Ok d)) e true known false size r = record {
+      ok = tt;
+      refused = (tokens, holds_there (IsTooLarge vocabulary) tokens bytes (λ rest. is_large vocabulary after taker d tokens rest (sym root_is ∙ e) (sym known_is ∙ known) size) begins);
+    }
     go (Some (Ok d)) e false known small size r = record {
       ok = tt;
-      refused = reason_of RefusesReference IsUnknown at_reference bytes tokens begins (finds_unknown vocabulary after (first_feed taker) tokens refl known);
+      refused = reason_of RefusesReference IsUnknown at_reference bytes tokens begins (finds_unknown tokens (sym known_is ∙ known));
     }
 
 -- ---- a document
@@ -134,6 +136,11 @@ takes_is f o k small e known size =
 finished_is : {T : Type 0} (f : Feed T) (o : Option (Result Dialect Wrong)) (k small : Bool) → f.root ≡ o → f.known ≡ k → fits f.child ≡ small → finished f ≡ finished_with o k small f
 finished_is f o k small e known size =
     ap (λ r. finished_with r f.known (fits f.child) f) e ∙ ap (λ b. finished_with o b (fits f.child) f) known ∙ ap (λ b. finished_with o k b f) size
+
+-- a document has a root
+has_root : (tokens : List Token) (name : List ℕ) (inside : Content) → IsTree tokens name inside → root_of tokens ≡ None → ⊥
+has_root tokens name inside tree e =
+    by_root name inside (λ root. root_of (root ++ tree.behind) ≡ None → ⊥) (λ n attributes space tokens r e. cc) (λ n attributes space tokens r e. cc) tree.root tree.is_root (sym (ap root_of tree.parts ∙ misc_root tree.before (tree.root ++ tree.behind) (quiet_prolog tree.before tree.prolog)) ∙ e)
 
 -- what comes of a document that was read to its end
 pub comes : (vocabulary : List Word) {T : Type 0} (after : T → List Line → T) (taker : T) (bytes : Option (List ℕ)) (text : List ℕ) (tokens : List Token) (name : List ℕ) (inside : Content)
@@ -178,7 +185,7 @@ comes vocabulary {T = T} after taker bytes text tokens name inside is document t
     go (Some (Err w)) e k known small size refused = by_refusal (Some (Err w)) e k known small size refl refused
     go (Some (Ok d)) e true known true size refused =
         let root = sym root_is ∙ e in
-        record { ok = taken d root (known_tree vocabulary after taker d tokens name inside tree root known) size (has_large (nodes_in vocabulary d [] inside)) refl; refused = tt }
+        record { ok = taken d root (sym (known_all vocabulary after taker tokens) ∙ known) size (has_large (nodes_in vocabulary d [] inside)) refl; refused = tt }
     go (Some (Ok d)) e true known false size refused = by_refusal (Some (Ok d)) e true known false size refl refused
     go (Some (Ok d)) e false known small size refused = by_refusal (Some (Ok d)) e false known small size refl refused
 

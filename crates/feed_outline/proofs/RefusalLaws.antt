@@ -1,6 +1,7 @@
 -- What tokens tell of the root and of references, and which of them is refused.
-use Rattle.std.proofs.Common.{◌≡◌, Bool, true, false, cond, List, [], ◌∷◌, ◌++◌, Option, Some, None, Result, Ok, Err, refl, sym, ap, ◌∙◌, fold}
+use Rattle.std.proofs.Common.{◌≡◌, Bool, true, false, cond, List, [], ◌∷◌, ◌++◌, Option, Some, None, Result, Ok, Err, refl, ap, ◌∙◌, fold}
 use Rattle.std.specs.Prelude.{◌&&◌}
+use Rattle.std.specs.List.{list_all}
 use Rattle.std.specs.Option.{option_or}
 use Rattle.feed_outline.specs.Names.{Word}
 use Rattle.feed_xml.specs.Grammar.{Token, raw, reference, opening, bracket, cdata, comment, instruction, declaration, doctype, start, empty, end}
@@ -10,18 +11,18 @@ use Rattle.feed_outline.specs.Namespaces.{bindings_of}
 use Rattle.feed_outline.specs.Nodes.{Said, speaks, opens, stands, closes, said, is_known, tag_of}
 use Rattle.feed_outline.specs.Outline.{Line}
 use Rattle.feed_outline.specs.private.Growing.{Growing, scopes_of, no_lines, opened, closed, is_idle}
-use Rattle.feed_outline.specs.private.Feed.{Feed, feeding, handed, fits, settled, feed, feed_said}
+use Rattle.feed_outline.specs.private.Feed.{Feed, feeding, first_feed, handed, fits, settled, feed, feed_said}
 use Rattle.feed_outline.specs.Roots.{root_in, root_of}
 use Rattle.feed_outline.specs.private.Reasons.{RefusesReference, RefusesRoot}
 
 -- ---- one token
 
 -- what it says stands for something
-abbrev pub known_in : Said → Bool
+abbrev known_in : Said → Bool
 known_in (speaks text known) = known
 known_in other = true
 
-pub known_said : (token : Token) → known_in (said token) ≡ is_known token
+known_said : (token : Token) → known_in (said token) ≡ is_known token
 known_said (raw b) = refl
 known_said (reference body) = refl
 known_said opening = refl
@@ -35,15 +36,10 @@ known_said (start name attributes space) = refl
 known_said (empty name attributes space) = refl
 known_said (end name space) = refl
 
-abbrev pub known_behind : Option (Result Dialect Wrong) → Said → Bool → Bool
-known_behind None s k = k
-known_behind (Some (Err w)) s k = k
-known_behind (Some (Ok d)) s k = known_in s && k
-
 -- what a token tells
-pub record Tells {T : Type 0} (r : Option (Result Dialect Wrong)) (k : Bool) (s : Said) (g : Feed T) : Type 0 where
+record Tells {T : Type 0} (r : Option (Result Dialect Wrong)) (k : Bool) (s : Said) (g : Feed T) : Type 0 where
   pub root : g.root ≡ option_or r (root_in s)
-  pub known : g.known ≡ known_behind r s k
+  pub known : g.known ≡ (known_in s && k)
 
 -- the end of an element leaves both as they are
 settled_tells : {T : Type 0} (after : T → List Line → T) (f : Feed T) (g : Growing) → (r : Option (Result Dialect Wrong)) (k : Bool) → f.root ≡ r → f.known ≡ k → ((settled after f g).root ≡ r) × ((settled after f g).known ≡ k)
@@ -72,11 +68,30 @@ said_tells vocabulary after t (Some (Ok d)) g k closes =
     let s = settled_tells after (feeding t (Some (Ok d)) g k) (closed g.passed g) (Some (Ok d)) k refl refl in
     record { root = s.0; known = s.1 }
 
-pub root_step : (vocabulary : List Word) {T : Type 0} (after : T → List Line → T) (f : Feed T) (token : Token) → (feed vocabulary after f token).root ≡ option_or f.root (root_in (said token))
+root_step : (vocabulary : List Word) {T : Type 0} (after : T → List Line → T) (f : Feed T) (token : Token) → (feed vocabulary after f token).root ≡ option_or f.root (root_in (said token))
 root_step vocabulary after f token = (said_tells vocabulary after f.taker f.root f.child f.known (said token)).root
 
-pub known_step : (vocabulary : List Word) {T : Type 0} (after : T → List Line → T) (f : Feed T) (token : Token) → (feed vocabulary after f token).known ≡ known_behind f.root (said token) f.known
-known_step vocabulary after f token = (said_tells vocabulary after f.taker f.root f.child f.known (said token)).known
+known_step : (vocabulary : List Word) {T : Type 0} (after : T → List Line → T) (f : Feed T) (token : Token) → (feed vocabulary after f token).known ≡ (is_known token && f.known)
+known_step vocabulary after f token = (said_tells vocabulary after f.taker f.root f.child f.known (said token)).known ∙ ap (λ b. b && f.known) (known_said token)
+
+-- whether each reference so far stands for something
+known_fold : (vocabulary : List Word) {T : Type 0} (after : T → List Line → T) (f : Feed T) (tokens : List Token) → (fold (feed vocabulary after) f tokens).known ≡ (f.known && list_all is_known tokens)
+known_fold vocabulary after f [] = go f.known
+  where
+    go : (b : Bool) → b ≡ (b && true)
+    go true = refl
+    go false = refl
+known_fold vocabulary after f (token ∷ tokens) =
+    known_fold vocabulary after (feed vocabulary after f token) tokens ∙ ap (λ b. b && list_all is_known tokens) (known_step vocabulary after f token)
+    ∙ go (is_known token) f.known
+  where
+    go : (a b : Bool) → ((a && b) && list_all is_known tokens) ≡ (b && (a && list_all is_known tokens))
+    go true b = refl
+    go false true = refl
+    go false false = refl
+
+pub known_all : (vocabulary : List Word) {T : Type 0} (after : T → List Line → T) (t : T) (tokens : List Token) → (fold (feed vocabulary after) (first_feed t) tokens).known ≡ list_all is_known tokens
+known_all vocabulary after t tokens = known_fold vocabulary after (first_feed t) tokens
 
 -- the root is told by the first tag
 pub roots : (vocabulary : List Word) {T : Type 0} (after : T → List Line → T) (f : Feed T) (tokens : List Token) → (fold (feed vocabulary after) f tokens).root ≡ option_or f.root (root_of tokens)
@@ -121,26 +136,11 @@ finds_root (token ∷ tokens) w h = go (root_in (said token)) refl h (finds_root
     go None e h later = further_on (RefusesRoot w) token tokens (λ before tag x. (ap (λ o. option_or o (root_of before)) e ∙ x.0, x.1)) (later h)
     go (Some r) e h later = record { before = []; token = token; behind = tokens; parts = refl; holds = (refl, ap (λ o. option_or o None) e ∙ h) }
 
-known_part : (r : Option (Result Dialect Wrong)) (s : Said) → known_behind r s true ≡ false → known_in s ≡ false
-known_part None s h = absurd cc
-known_part (Some (Err w)) s h = absurd cc
-known_part (Some (Ok d)) s h = part (known_in s) h
-  where
-    part : (b : Bool) → (b && true) ≡ false → b ≡ false
-    part true h = h
-    part false h = refl
-
 -- a reference that stands for nothing
-pub finds_unknown : (vocabulary : List Word) {T : Type 0} (after : T → List Line → T) (f : Feed T) (tokens : List Token) → f.known ≡ true → (fold (feed vocabulary after) f tokens).known ≡ false → Finds RefusesReference tokens
-finds_unknown vocabulary after f [] k h = absurd (cc (sym k ∙ h))
-finds_unknown vocabulary after f (token ∷ tokens) k h = go (feed vocabulary after f token).known refl (λ e. finds_unknown vocabulary after (feed vocabulary after f token) tokens e h)
+pub finds_unknown : (tokens : List Token) → list_all is_known tokens ≡ false → Finds RefusesReference tokens
+finds_unknown [] e = absurd cc
+finds_unknown (token ∷ tokens) e = go (is_known token) refl e (finds_unknown tokens)
   where
-    go : (b : Bool) → (feed vocabulary after f token).known ≡ b → ((feed vocabulary after f token).known ≡ true → Finds RefusesReference tokens) → Finds RefusesReference (token ∷ tokens)
-    go true e later = further_on RefusesReference token tokens (λ before t x. x) (later e)
-    go false e later = record {
-      before = [];
-      token = token;
-      behind = tokens;
-      parts = refl;
-      holds = sym (known_said token) ∙ known_part f.root (said token) (ap (known_behind f.root (said token)) (sym k) ∙ sym (known_step vocabulary after f token) ∙ e);
-    }
+    go : (b : Bool) → is_known token ≡ b → (b && list_all is_known tokens) ≡ false → (list_all is_known tokens ≡ false → Finds RefusesReference tokens) → Finds RefusesReference (token ∷ tokens)
+    go true k e later = further_on RefusesReference token tokens (λ before t x. x) (later e)
+    go false k e later = record { before = []; token = token; behind = tokens; parts = refl; holds = k }

@@ -21,7 +21,8 @@ use Rattle.feed_outline.specs.Nodes.{Nodes, no_nodes, said, Tag, tag_of, is_know
 use Rattle.feed_outline.specs.Outline.{Line, line, part}
 use Rattle.feed_outline.specs.Sizes.{element_size, has_large, is_small, lines_size, nodes_size}
 use Rattle.feed_outline.specs.Spaces.{collapsed}
-use Rattle.feed_outline.proofs.FeedLaws.{by_root, misc_before, misc_root, part_ends, part_size, quiet_prolog, speaks_outside, tree_feeds}
+use Rattle.feed_xml.proofs.KindLaws.{by_root}
+use Rattle.feed_outline.proofs.FeedLaws.{misc_before, misc_root, part_ends, part_size, quiet_prolog, speaks_outside, tree_feeds}
 use Rattle.feed_outline.proofs.InsideLaws.{IsClean, by_leaf, clean, inside_at, root_inside, passes}
 use Rattle.feed_outline.proofs.LargeLaws.{part_large, stays_large}
 

@@ -44,10 +44,10 @@ IsUnknown tokens rest = (token : Token) × Follows token rest × (is_known token
 module _ (vocabulary : List Word) (bytes : Option (List ℕ)) where
   -- Why a message is refused. Malformed: what the reader has left is no document. No text: its
   -- bytes are none. Unknown encoding: its declaration names one that is none of those. The others:
-  -- the text begins with tokens, as a document may, and there it goes beyond that bound, or there
-  -- is the tag of another root or release, or a reference that stands for nothing; or those tokens
-  -- tell of a Header or Product that is too large. What comes of a failed read or of want of memory
-  -- needs no reason; no other document is refused.
+  -- the text begins with tokens, and there it goes beyond that bound, or there is the tag of another
+  -- root or release, or a reference that stands for nothing; or those tokens tell of a Header or
+  -- Product that is too large. What comes of a failed read or of want of memory needs no reason; no
+  -- other document is refused.
   abbrev pub Explains : Fault → Type 0
   Explains (Document Malformed) = OfText IsNoDocument bytes
   Explains (Document NotText) = OfText IsNoText bytes

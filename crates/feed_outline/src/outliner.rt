@@ -232,13 +232,11 @@ impl<T: Taker + Drop> Outliner<T> {
     fn speak(&mut self, text: &[u8], known: bool) -> Result<(), AllocError>
         ensures { OnOk result (self.new ≡ spoken self.old.root text.now known self.old) }
     {
+        self.known = known && self.known;
         match &self.root {
             None => Ok(()),
             Some(Err(_)) => Ok(()),
-            Some(Ok(_)) => {
-                self.known = known && self.known;
-                self.child.add(text)
-            }
+            Some(Ok(_)) => self.child.add(text),
         }
     }
 

@@ -12,15 +12,15 @@ use Rattle.feed_xml.specs.EncodingNames.{IsOfUnknown, OfText, encoding_at, encod
 use Rattle.feed_xml.specs.Encodings.{decoded}
 use Rattle.feed_xml.specs.Faults.{IsOfEnd, IsOfPlace, IsOfReading, Tells}
 use Rattle.feed_xml.specs.Grammar.{Token}
-use Rattle.feed_xml.specs.private.Bounds.{IsDeepAt, IsLargeAt, IsLargeTag, IsLongAt, MeetsFrom, OpensOneMore}
+use Rattle.feed_xml.specs.private.Bounds.{BeginsAt, IsDeepAt, IsLargeAt, IsLargeTag, IsLongAt, MeetsFrom, OpensOneMore}
 use Rattle.feed_xml.specs.private.Faults.{IsUnknown, TellsText, TellsWindow}
 use Rattle.feed_xml.specs.private.Places.{IsNeverComplete, first_place, section_of, steps}
-use Rattle.feed_xml.specs.private.Windows.{Advances, BeginsAt}
+use Rattle.feed_xml.specs.private.Windows.{Advances}
 use Rattle.feed_xml.specs.Pieces.{Begins}
 use Rattle.feed_xml.proofs.DocumentLaws.{misplaced}
-use Rattle.feed_xml.proofs.LimitLaws.{deep_lasts, large_lasts, piece_follows}
+use Rattle.feed_xml.proofs.LimitLaws.{begins_lasts, deep_lasts, large_lasts, piece_follows}
 use Rattle.feed_xml.proofs.MeetLaws.{begins_text, deep_text, large_text, long_text, of_all}
-use Rattle.feed_xml.proofs.ReadingLaws.{State, begins_further, goes_beyond, none_follows}
+use Rattle.feed_xml.proofs.ReadingLaws.{State, goes_beyond, none_follows}
 use Rattle.feed_xml.proofs.TreeLaws.{never_document}
 
 -- what holds of the two faults of reading holds of each that is one of them
@@ -76,7 +76,7 @@ window_tells after goes_on told left window shown tokens place part old mid new 
 window_tells after goes_on told left window shown tokens place part old mid new Refused s same sunk w =
     let t = w.1 in (
       w.0,
-      (tokens ++ t.0, begins_further told left window shown tokens t.0 place part s same t.1, t.2 ∙ ap (λ s. fold after s t.0) sunk ∙ sym (fold-append after old tokens t.0)),
+      (tokens ++ t.0, goes_beyond (λ p rest. Unit {0}) told left window shown tokens place part begins_lasts t.0 s same t.1, t.2 ∙ ap (λ s. fold after s t.0) sunk ∙ sym (fold-append after old tokens t.0)),
     )
 window_tells after goes_on told left window shown tokens place part old mid new NotText s same sunk w = absurd w
 window_tells after goes_on told left window shown tokens place part old mid new TooLong s same sunk w = absurd w

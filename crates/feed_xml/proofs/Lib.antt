@@ -13,8 +13,8 @@ pub mod PlaceLaws
 pub mod DocumentLaws
 pub mod LimitLaws
 pub mod NumberLaws
+pub mod KindLaws
 pub mod TreeLaws
-pub mod FrontLaws
 pub mod MeetLaws
 pub mod EntityLaws
 pub mod AsciiLaws

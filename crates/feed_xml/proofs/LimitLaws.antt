@@ -28,6 +28,9 @@ deep_lasts p rest more h = (h.0, h.1, follows_lasts h.0 rest more h.2, h.3)
 pub large_lasts : Lasts IsLargeAt
 large_lasts p rest more h = (h.0, follows_lasts h.0 rest more h.1, h.2)
 
+pub begins_lasts : Lasts (λ place rest. Unit {0})
+begins_lasts p rest more h = tt
+
 pub long_lasts : Lasts IsLongAt
 long_lasts p rest more h = (h.0, h.1 ++ more, ap (λ (l : List ℕ). l ++ more) h.2 ∙ append_assoc h.0 h.1 more, h.3, h.4)
 

@@ -6,7 +6,7 @@ use Rattle.std.proofs.KnownBytes.{Consumes-trans, prepend_known-nil}
 use Rattle.feed_xml.specs.declared.place.Place.{Place}
 use Rattle.feed_xml.specs.declared.texts.Part.{Part}
 use Rattle.feed_xml.specs.declared.texts.Part.TheVariants.{Whole}
-use Rattle.feed_xml.specs.private.Windows.{Advances, BeginsAt, Grows, IsTold, is_whole}
+use Rattle.feed_xml.specs.private.Windows.{Advances, Grows, IsTold, is_whole}
 use Rattle.feed_xml.specs.Grammar.{Token}
 use Rattle.feed_xml.specs.private.Bounds.{MeetsFrom, IsLongAt}
 use Rattle.feed_xml.specs.Pieces.{HasNoToken}
@@ -14,7 +14,7 @@ use Rattle.feed_xml.specs.private.Places.{Completes, IsComplete, IsNeverComplete
 use Rattle.feed_xml.specs.Documents.{IsNoText}
 use Rattle.feed_xml.specs.Texts.{follow, is_start, IsSmall}
 use Rattle.feed_xml.proofs.Runs.{rest_is}
-use Rattle.feed_xml.proofs.DocumentLaws.{at_start, advance_further, advance_longer, a_round, known_malformed, known_told, known_cut, known_garbled, known_half, nothing_read, whole_document}
+use Rattle.feed_xml.proofs.DocumentLaws.{at_start, advance_longer, a_round, known_malformed, known_told, known_cut, known_garbled, known_half, nothing_read, whole_document}
 use Rattle.feed_xml.proofs.LimitLaws.{Lasts, known_limit, long_lasts}
 use Rattle.feed_xml.proofs.TextLaws.{follow-append}
 
@@ -117,20 +117,6 @@ pub is_read : (told left : Option (List ℕ)) (window : List ℕ) (tokens : List
     → is_whole window q part ≡ true → (text : List ℕ) × IsTold told text × IsComplete text tokens
 is_read told left window tokens q part s last whole =
     (s.text, known_told told left s.text (nothing_bad told left s.text s.bad s.at_part.0 s.read) last, whole_document s.text window tokens q part s.advances s.at_part.1 whole)
-
--- ---- the tokens so far
-
-known_front : (a b : Option (List ℕ)) (text window : List ℕ) (tokens : List Token) (q : Place) → Consumes a b text → Advances text tokens window first_place q
-    → IfSome a (BeginsAt first_place tokens)
-known_front None b text window tokens q c adv = tt
-known_front (Some x) None text window tokens q c adv = absurd c
-known_front (Some x) (Some y) text window tokens q c adv = (window ++ y, q, subst (λ (l : List ℕ). Advances l tokens (window ++ y) first_place q) (sym c) (advance_longer text window y tokens first_place q adv))
-
-pub begins_further : (told left : Option (List ℕ)) (window shown : List ℕ) (tokens others : List Token) (q : Place) (part : Option Part) → State told left window tokens q part → shown ≡ window
-    → BeginsAt q others shown → IfSome told (BeginsAt first_place (tokens ++ others))
-begins_further told left window shown tokens others q part s is b =
-    let a : Advances window others b.0 q b.1 = subst (λ (l : List ℕ). Advances l others b.0 q b.1) is b.2 in
-    known_front told (prepend_known s.bad left) s.text b.0 (tokens ++ others) b.1 s.read (advance_further s.text window b.0 tokens others first_place q b.1 s.advances a)
 
 -- a window that is too long
 pub too_long : (told left : Option (List ℕ)) (window : List ℕ) (tokens : List Token) (q : Place) (part : Option Part) → State told left window tokens q part → IsLongAt q window

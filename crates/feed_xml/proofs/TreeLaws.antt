@@ -9,9 +9,10 @@ use Rattle.feed_xml.specs.declared.place.Prolog.{Prolog}
 use Rattle.feed_xml.specs.declared.place.Prolog.TheVariants.{Front, Open, Closed}
 use Rattle.feed_xml.specs.Documents.{IsDocument, IsNoDocument}
 use Rattle.feed_xml.specs.Grammar.{Attribute, is_space, is_token, Token, raw, reference, opening, bracket, cdata, comment, instruction, declaration, doctype, start, empty, end}
-use Rattle.feed_xml.specs.private.Places.{nested, nests, first_nesting, last_nesting, first_place, last_place, ordered, prolog_after, steps, IsComplete, IsNeverComplete}
+use Rattle.feed_xml.specs.private.Places.{nested, nests, first_nesting, last_nesting, first_place, last_place, further, ordered, prolog_after, steps, IsComplete, IsNeverComplete}
 use Rattle.feed_xml.specs.Tree.{Content, nothing, leaf, element, tokens_of, IsLeaf, HasLeaves}
 use Rattle.feed_xml.specs.Trees.{IsMisc, AreTyped, IsProlog, IsRoot, IsTree, AreDocument}
+use Rattle.feed_xml.proofs.KindLaws.{by_misc, by_prolog, by_root, by_typed}
 use Rattle.feed_xml.proofs.PlaceLaws.{nests-append, prolog-append, parts_of, steps_of}
 
 abbrev inside_of : List (List ℕ) → Nesting
@@ -240,19 +241,20 @@ from_front (end name space ∷ ts) h o = absurd (none_ends h)
 then_go : (p q : Nesting) (xs ys : List Token) → nests p xs ≡ Some q → nests p (xs ++ ys) ≡ nests q ys
 then_go p q xs ys h = nests-append p xs ys ∙ rw h refl
 
-leaf_stays : (n : List ℕ) (os : List (List ℕ)) (t : Token) → IsLeaf t → nested (inside_of (n ∷ os)) t ≡ Some (inside_of (n ∷ os))
-leaf_stays n os (raw b) h = refl
-leaf_stays n os (reference body) h = refl
-leaf_stays n os opening h = refl
-leaf_stays n os (bracket count) h = refl
-leaf_stays n os (cdata count byte) h = refl
-leaf_stays n os (comment body) h = refl
-leaf_stays n os (instruction body) h = refl
-leaf_stays n os (declaration body) h = absurd h
-leaf_stays n os (doctype body) h = absurd h
-leaf_stays n os (start name attributes space) h = absurd h
-leaf_stays n os (empty name attributes space) h = refl
-leaf_stays n os (end name space) h = absurd h
+-- what is a leaf leaves the elements around it open, behind the root's tag
+leaf_stays : (t : Token) → IsLeaf t → ((n : List ℕ) (os : List (List ℕ)) → nested (inside_of (n ∷ os)) t ≡ Some (inside_of (n ∷ os))) × (ordered Closed t ≡ Some Closed)
+leaf_stays (raw b) h = (λ n os. refl, refl)
+leaf_stays (reference body) h = (λ n os. refl, refl)
+leaf_stays opening h = (λ n os. refl, refl)
+leaf_stays (bracket count) h = (λ n os. refl, refl)
+leaf_stays (cdata count byte) h = (λ n os. refl, refl)
+leaf_stays (comment body) h = (λ n os. refl, refl)
+leaf_stays (instruction body) h = (λ n os. refl, refl)
+leaf_stays (declaration body) h = absurd h
+leaf_stays (doctype body) h = absurd h
+leaf_stays (start name attributes space) h = absurd h
+leaf_stays (empty name attributes space) h = (λ n os. refl, refl)
+leaf_stays (end name space) h = absurd h
 
 closes : (name closing : List ℕ) (os : List (List ℕ)) → nested (inside_of (name ∷ os)) (end name closing) ≡ Some (inside_of os)
 closes name closing os =
@@ -262,176 +264,86 @@ closes name closing os =
 -- what stands in an element leaves it open
 content_stays : (c : Content) (n : List ℕ) (os : List (List ℕ)) → HasLeaves c → nests (inside_of (n ∷ os)) (tokens_of c) ≡ Some (inside_of (n ∷ os))
 content_stays nothing n os h = refl
-content_stays (leaf t rest) n os h = rw (leaf_stays n os t h.0) (content_stays rest n os h.1)
+content_stays (leaf t rest) n os h = rw ((leaf_stays t h.0).0 n os) (content_stays rest n os h.1)
 content_stays (element name attributes space inside closing rest) n os h =
     then_go (inside_of (name ∷ n ∷ os)) (inside_of (name ∷ n ∷ os)) (tokens_of inside) (end name closing ∷ tokens_of rest) (content_stays inside name (n ∷ os) h.0)
     ∙ rw (closes name closing (n ∷ os)) (content_stays rest n os h.1)
+
+-- what stands around the root changes nothing
+record Passed (t : Token) : Type 0 where
+  before : nested first_nesting t ≡ Some first_nesting
+  behind : nested last_nesting t ≡ Some last_nesting
+  order : (p : Prolog) → ordered p t ≡ Some (further p)
+
+passed : (t : Token) → IsMisc t → Passed t
+passed =
+    by_misc Passed (λ b h. record { before = rw h refl; behind = rw h refl; order = λ p. refl })
+    (λ body. record { before = refl; behind = refl; order = λ p. refl })
+    (λ body. record { before = refl; behind = refl; order = λ p. refl })
 
 record Stays (p : Prolog) (ts : List Token) : Type 0 where
   nesting : nests first_nesting ts ≡ Some first_nesting
   last : Prolog
   order : prolog_after p ts ≡ Some last
 
-misc_first : (ts : List Token) → AllByRecursion IsMisc ts → Stays Closed ts
-misc_first [] h = record { nesting = refl; last = Closed; order = refl }
-misc_first (raw b ∷ ts) h =
-    let s = misc_first ts h.1 in
-    record { nesting = rw h.0 s.nesting; last = s.last; order = s.order }
-misc_first (comment body ∷ ts) h =
-    let s = misc_first ts h.1 in
-    record { nesting = s.nesting; last = s.last; order = s.order }
-misc_first (instruction body ∷ ts) h =
-    let s = misc_first ts h.1 in
-    record { nesting = s.nesting; last = s.last; order = s.order }
-misc_first (declaration body ∷ ts) h = absurd h.0
-misc_first (doctype body ∷ ts) h = absurd h.0
-misc_first (reference body ∷ ts) h = absurd h.0
-misc_first (opening ∷ ts) h = absurd h.0
-misc_first (bracket count ∷ ts) h = absurd h.0
-misc_first (cdata count byte ∷ ts) h = absurd h.0
-misc_first (start name attributes space ∷ ts) h = absurd h.0
-misc_first (empty name attributes space ∷ ts) h = absurd h.0
-misc_first (end name space ∷ ts) h = absurd h.0
-
-typed_first : (ts : List Token) → AreTyped ts → Stays Open ts
-typed_first [] h = record { nesting = refl; last = Open; order = refl }
-typed_first (raw b ∷ ts) h =
-    let s = typed_first ts h.1 in
-    record { nesting = rw h.0 s.nesting; last = s.last; order = s.order }
-typed_first (comment body ∷ ts) h =
-    let s = typed_first ts h.1 in
-    record { nesting = s.nesting; last = s.last; order = s.order }
-typed_first (instruction body ∷ ts) h =
-    let s = typed_first ts h.1 in
-    record { nesting = s.nesting; last = s.last; order = s.order }
-typed_first (declaration body ∷ ts) h = absurd h.0
-typed_first (doctype body ∷ ts) h =
-    let s = misc_first ts h in
-    record { nesting = s.nesting; last = s.last; order = s.order }
-typed_first (reference body ∷ ts) h = absurd h.0
-typed_first (opening ∷ ts) h = absurd h.0
-typed_first (bracket count ∷ ts) h = absurd h.0
-typed_first (cdata count byte ∷ ts) h = absurd h.0
-typed_first (start name attributes space ∷ ts) h = absurd h.0
-typed_first (empty name attributes space ∷ ts) h = absurd h.0
-typed_first (end name space ∷ ts) h = absurd h.0
-
--- behind any other token than a declaration or a DOCTYPE
-opens : (t : Token) (ts : List Token) → ordered Front t ≡ Some Open → Stays Open (t ∷ ts) → ordered Open t ≡ Some Open → Stays Front (t ∷ ts)
-opens t ts e s f = record {
-  nesting = s.nesting;
+one_more : (p : Prolog) (t : Token) (ts : List Token) → IsMisc t → Stays (further p) ts → Stays p (t ∷ ts)
+one_more p t ts h s = record {
+  nesting = ap (option_and_then (λ q. nests q ts)) (passed t h).before ∙ s.nesting;
   last = s.last;
-  order = rw e (sym (rw f refl) ∙ s.order);
+  order = ap (option_and_then (λ q. prolog_after q ts)) ((passed t h).order p) ∙ s.order;
 }
 
-prolog_first : (ts : List Token) → IsProlog ts → Stays Front ts
-prolog_first [] h = record { nesting = refl; last = Front; order = refl }
-prolog_first (raw b ∷ ts) h = opens (raw b) ts refl (typed_first (raw b ∷ ts) h) refl
-prolog_first (comment body ∷ ts) h = opens (comment body) ts refl (typed_first (comment body ∷ ts) h) refl
-prolog_first (instruction body ∷ ts) h = opens (instruction body) ts refl (typed_first (instruction body ∷ ts) h) refl
-prolog_first (declaration body ∷ ts) h =
-    let s = typed_first ts h in
-    record { nesting = s.nesting; last = s.last; order = s.order }
-prolog_first (doctype body ∷ ts) h =
+misc_first : (ts : List Token) → AllByRecursion IsMisc ts → Stays Closed ts
+misc_first [] h = record { nesting = refl; last = Closed; order = refl }
+misc_first (t ∷ ts) h = one_more Closed t ts h.0 (misc_first ts h.1)
+
+typed_first : (ts : List Token) → AreTyped ts → Stays Front ts × Stays Open ts
+typed_first =
+    by_typed (λ ts. Stays Front ts × Stays Open ts) (record { nesting = refl; last = Front; order = refl }, record { nesting = refl; last = Open; order = refl })
+    (λ body ts h.
     let s = misc_first ts h in
-    record { nesting = s.nesting; last = s.last; order = s.order }
-prolog_first (reference body ∷ ts) h = absurd h.0
-prolog_first (opening ∷ ts) h = absurd h.0
-prolog_first (bracket count ∷ ts) h = absurd h.0
-prolog_first (cdata count byte ∷ ts) h = absurd h.0
-prolog_first (start name attributes space ∷ ts) h = absurd h.0
-prolog_first (empty name attributes space ∷ ts) h = absurd h.0
-prolog_first (end name space ∷ ts) h = absurd h.0
+    (record { nesting = s.nesting; last = s.last; order = s.order }, record { nesting = s.nesting; last = s.last; order = s.order }))
+    (λ t ts h s. (one_more Front t ts h s.1, one_more Open t ts h s.1))
+
+prolog_first : (ts : List Token) → IsProlog ts → Stays Front ts
+prolog_first =
+    by_prolog (Stays Front)
+    (λ body ts h. let s = (typed_first ts h).1 in record { nesting = s.nesting; last = s.last; order = s.order })
+    (λ ts h. (typed_first ts h).0)
 
 misc_stays : (ts : List Token) → AllByRecursion IsMisc ts → nests last_nesting ts ≡ Some last_nesting
 misc_stays [] h = refl
-misc_stays (raw b ∷ ts) h = rw h.0 (misc_stays ts h.1)
-misc_stays (comment body ∷ ts) h = misc_stays ts h.1
-misc_stays (instruction body ∷ ts) h = misc_stays ts h.1
-misc_stays (declaration body ∷ ts) h = absurd h.0
-misc_stays (doctype body ∷ ts) h = absurd h.0
-misc_stays (reference body ∷ ts) h = absurd h.0
-misc_stays (opening ∷ ts) h = absurd h.0
-misc_stays (bracket count ∷ ts) h = absurd h.0
-misc_stays (cdata count byte ∷ ts) h = absurd h.0
-misc_stays (start name attributes space ∷ ts) h = absurd h.0
-misc_stays (empty name attributes space ∷ ts) h = absurd h.0
-misc_stays (end name space ∷ ts) h = absurd h.0
+misc_stays (t ∷ ts) h = ap (option_and_then (λ q. nests q ts)) (passed t h.0).behind ∙ misc_stays ts h.1
 
 root_ends : (root : List Token) (name : List ℕ) (inside : Content) → HasLeaves inside → IsRoot root name inside → nests first_nesting root ≡ Some last_nesting
-root_ends [] name inside l h = absurd h
-root_ends (start n attributes space ∷ tokens) name inside l h =
+root_ends root name inside l =
+    by_root name inside (λ root. nests first_nesting root ≡ Some last_nesting)
+    (λ n attributes space tokens h.
     ap (nests (inside_of (n ∷ []))) h.1.1 ∙ ap (λ (m : List ℕ). nests (inside_of (m ∷ [])) (tokens_of inside ++ end name h.1.0 ∷ [])) h.0
     ∙ then_go (inside_of (name ∷ [])) (inside_of (name ∷ [])) (tokens_of inside) (end name h.1.0 ∷ []) (content_stays inside name [] l)
-    ∙ rw (closes name h.1.0 []) refl
-root_ends (empty n attributes space ∷ tokens) name inside l h = ap (nests last_nesting) h.2
-root_ends (raw b ∷ tokens) name inside l h = absurd h
-root_ends (reference body ∷ tokens) name inside l h = absurd h
-root_ends (opening ∷ tokens) name inside l h = absurd h
-root_ends (bracket count ∷ tokens) name inside l h = absurd h
-root_ends (cdata count byte ∷ tokens) name inside l h = absurd h
-root_ends (comment body ∷ tokens) name inside l h = absurd h
-root_ends (instruction body ∷ tokens) name inside l h = absurd h
-root_ends (declaration body ∷ tokens) name inside l h = absurd h
-root_ends (doctype body ∷ tokens) name inside l h = absurd h
-root_ends (end n space ∷ tokens) name inside l h = absurd h
+    ∙ rw (closes name h.1.0 []) refl)
+    (λ n attributes space tokens h. ap (nests last_nesting) h.2) root
 
 -- behind the root's tag
-leaf_past : (t : Token) → IsLeaf t → ordered Closed t ≡ Some Closed
-leaf_past (raw b) h = refl
-leaf_past (reference body) h = refl
-leaf_past opening h = refl
-leaf_past (bracket count) h = refl
-leaf_past (cdata count byte) h = refl
-leaf_past (comment body) h = refl
-leaf_past (instruction body) h = refl
-leaf_past (declaration body) h = absurd h
-leaf_past (doctype body) h = absurd h
-leaf_past (start name attributes space) h = absurd h
-leaf_past (empty name attributes space) h = refl
-leaf_past (end name space) h = absurd h
-
 past_go : (p q : Prolog) (xs ys : List Token) → prolog_after p xs ≡ Some q → prolog_after p (xs ++ ys) ≡ prolog_after q ys
 past_go p q xs ys h = prolog-append p xs ys ∙ rw h refl
 
 content_past : (c : Content) → HasLeaves c → prolog_after Closed (tokens_of c) ≡ Some Closed
 content_past nothing h = refl
-content_past (leaf t rest) h = rw (leaf_past t h.0) (content_past rest h.1)
+content_past (leaf t rest) h = rw (leaf_stays t h.0).1 (content_past rest h.1)
 content_past (element name attributes space inside closing rest) h =
     past_go Closed Closed (tokens_of inside) (end name closing ∷ tokens_of rest) (content_past inside h.0)
     ∙ content_past rest h.1
 
 misc_past : (ts : List Token) → AllByRecursion IsMisc ts → prolog_after Closed ts ≡ Some Closed
 misc_past [] h = refl
-misc_past (raw b ∷ ts) h = misc_past ts h.1
-misc_past (comment body ∷ ts) h = misc_past ts h.1
-misc_past (instruction body ∷ ts) h = misc_past ts h.1
-misc_past (declaration body ∷ ts) h = absurd h.0
-misc_past (doctype body ∷ ts) h = absurd h.0
-misc_past (reference body ∷ ts) h = absurd h.0
-misc_past (opening ∷ ts) h = absurd h.0
-misc_past (bracket count ∷ ts) h = absurd h.0
-misc_past (cdata count byte ∷ ts) h = absurd h.0
-misc_past (start name attributes space ∷ ts) h = absurd h.0
-misc_past (empty name attributes space ∷ ts) h = absurd h.0
-misc_past (end name space ∷ ts) h = absurd h.0
+misc_past (t ∷ ts) h = ap (option_and_then (λ q. prolog_after q ts)) ((passed t h.0).order Closed) ∙ misc_past ts h.1
 
 root_past : (p : Prolog) (root : List Token) (name : List ℕ) (inside : Content) → HasLeaves inside → IsRoot root name inside → prolog_after p root ≡ Some Closed
-root_past p [] name inside l h = absurd h
-root_past p (start n attributes space ∷ tokens) name inside l h =
-    ap (prolog_after Closed) h.1.1
-    ∙ past_go Closed Closed (tokens_of inside) (end name h.1.0 ∷ []) (content_past inside l)
-root_past p (empty n attributes space ∷ tokens) name inside l h = ap (prolog_after Closed) h.2
-root_past p (raw b ∷ tokens) name inside l h = absurd h
-root_past p (reference body ∷ tokens) name inside l h = absurd h
-root_past p (opening ∷ tokens) name inside l h = absurd h
-root_past p (bracket count ∷ tokens) name inside l h = absurd h
-root_past p (cdata count byte ∷ tokens) name inside l h = absurd h
-root_past p (comment body ∷ tokens) name inside l h = absurd h
-root_past p (instruction body ∷ tokens) name inside l h = absurd h
-root_past p (declaration body ∷ tokens) name inside l h = absurd h
-root_past p (doctype body ∷ tokens) name inside l h = absurd h
-root_past p (end n space ∷ tokens) name inside l h = absurd h
+root_past p root name inside l =
+    by_root name inside (λ root. prolog_after p root ≡ Some Closed)
+    (λ n attributes space tokens h. ap (prolog_after Closed) h.1.1 ∙ past_go Closed Closed (tokens_of inside) (end name h.1.0 ∷ []) (content_past inside l))
+    (λ n attributes space tokens h. ap (prolog_after Closed) h.2) root
 
 tree_nests : (tokens : List Token) (name : List ℕ) (inside : Content) → IsTree tokens name inside → nests first_nesting tokens ≡ Some last_nesting
 tree_nests tokens name inside t =

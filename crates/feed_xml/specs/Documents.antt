@@ -1,5 +1,5 @@
--- Documents, and what a document begins with.
-use Rattle.std.specs.Prelude.{◌≡◌, ℕ, List, ◌++◌}
+-- Documents.
+use Rattle.std.specs.Prelude.{◌≡◌, ℕ, List}
 use Rattle.std.specs.List.{flat_map}
 use Rattle.feed_xml.specs.Grammar.{Token, spelling}
 use Rattle.feed_xml.specs.Texts.{IsText}
@@ -19,7 +19,3 @@ module _ (bytes : List ℕ) where
   -- the bytes are no document
   abbrev pub IsNoDocument : Type 0
   IsNoDocument = (tokens : List Token) → ¬ (IsDocument bytes tokens)
-
--- a document begins with these tokens
-abbrev pub AreFront : List Token → Type 0
-AreFront tokens = (more : List Token) × AreDocument (tokens ++ more)

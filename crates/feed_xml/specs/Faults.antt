@@ -29,13 +29,12 @@ IsOfReading Read = Unit {0}
 IsOfReading Memory = Unit {0}
 IsOfReading other = ⊥
 
--- the text of the bytes, where those are told, begins with tokens, as a document may, and there
--- this holds
+-- the text of the bytes, where those are told, begins with tokens, and there this holds
 abbrev pub GoesTo : Option (List ℕ) → Bound → Type 0
 GoesTo bytes Limit = (tokens : List Token) × OfText (Meets Limit tokens) bytes
 
 module _ {S : Type 0} (after : S → Token → S) (bytes : Option (List ℕ)) (old new : S) where
-  -- the text begins with tokens, as a document may, and the sink took them
+  -- the text begins with tokens, and the sink took them
   abbrev pub TookSome : Type 0
   TookSome =
       (tokens : List Token) × OfText (BeginsWith tokens) bytes × (new ≡ fold after old tokens)

@@ -1,24 +1,24 @@
 -- What goes beyond what is taken.
-use Rattle.std.specs.Prelude.{◌≡◌, ◌<◌, ◌≤◌, ℕ, suc, ◌-◌, true, List, ◌++◌, length}
+use Rattle.std.specs.Prelude.{◌≡◌, ◌<◌, ◌≤◌, ℕ, suc, ◌-◌, true, List, ◌++◌, length, None}
 use Rattle.std.specs.Prelude.{fold}
-use Rattle.std.specs.List.{flat_map}
+use Rattle.std.specs.List.{flat_map, list_all}
 use Rattle.feed_xml.specs.Distinct.{is_large}
-use Rattle.feed_xml.specs.Documents.{AreFront}
-use Rattle.feed_xml.specs.Grammar.{Attribute, Token, start, end, spelling, is_token}
+use Rattle.feed_xml.specs.Grammar.{Token, start, end, spelling, is_token}
 use Rattle.feed_xml.specs.Pieces.{HasNoToken}
-use Rattle.feed_xml.specs.Sections.{section_past}
+use Rattle.feed_xml.specs.Sections.{AreIn, section_past}
 
 -- what may be said of the first tokens of a text and of what follows them
 abbrev pub Bound : Type 1
 Bound = List Token → List ℕ → Type 0
 
--- the bytes begin with these tokens, and so does a document, and there and of the rest this holds
+-- The bytes begin with these tokens, each well formed and in the section, if any, that those before
+-- it leave open, and there and of the rest this holds.
 abbrev pub Meets : Bound → List Token → List ℕ → Type 0
 Meets Limit tokens bytes =
-    (rest : List ℕ) × (bytes ≡ flat_map spelling tokens ++ rest) × AreFront tokens
-    × Limit tokens rest
+    (rest : List ℕ) × (bytes ≡ flat_map spelling tokens ++ rest)
+    × (list_all is_token tokens ≡ true) × AreIn None tokens × Limit tokens rest
 
--- the bytes, and a document, begin with these tokens
+-- the bytes begin with these tokens
 abbrev pub BeginsWith : List Token → List ℕ → Type 0
 BeginsWith = Meets (λ tokens rest. Unit {0})
 
@@ -32,11 +32,14 @@ open_behind n (start name attributes space) = suc n
 open_behind n (end name space) = n - 1
 open_behind n other = n
 
+abbrev pub IsStart : Token → Type 0
+IsStart (start name attributes space) = Unit {0}
+IsStart other = ⊥
+
 -- 1,000 elements are open, and the start tag of another one follows
 abbrev pub IsDeep : Bound
 IsDeep tokens rest =
-    (name : List ℕ) × (attributes : List Attribute) × (space : List ℕ)
-    × Follows (start name attributes space) rest × (1000 ≤ fold open_behind 0 tokens)
+    (tag : Token) × IsStart tag × Follows tag rest × (1000 ≤ fold open_behind 0 tokens)
 
 -- a tag follows with more attributes, or more bytes of them, than are taken
 abbrev pub IsLarge : Bound

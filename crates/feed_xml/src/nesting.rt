@@ -3,7 +3,7 @@
 ghost use Rattle.std.specs.Prelude.{◌≡◌, ◌≤◌, ◌<◌, true, false, Some, None, OnOk, OnErr, IfErr, IsErrOf, map, length};
 ghost use Rattle.std.specs.List.{list_all};
 ghost use Rattle.feed_xml.specs.Grammar.{is_space, raw};
-ghost use Rattle.feed_xml.specs.private.Bounds.{IsStart};
+ghost use Rattle.feed_xml.specs.Limits.{IsStart};
 ghost use Rattle.feed_xml.specs.private.Places.{nested, nests, first_nesting, opened, is_closed, is_nothing};
 ghost use Rattle.feed_xml.specs.Faults.{IsOfPlace};
 ghost use Rattle.feed_xml.specs.View.{token_view};

@@ -3,7 +3,7 @@
 ghost use Rattle.std.specs.Prelude.{◌≡◌, ◌≤◌, ◌∷◌, [], ℕ, Some, None, true, false, OnOk, OnErr, IfErr, IsErrOf, map, length};
 ghost use Rattle.feed_xml.specs.Distinct.{are_many, is_large};
 ghost use Rattle.feed_xml.specs.Grammar.{raw, cdata, are_distinct};
-ghost use Rattle.feed_xml.specs.private.Bounds.{IsStart};
+ghost use Rattle.feed_xml.specs.Limits.{IsStart};
 ghost use Rattle.feed_xml.specs.Sections.{with_bracket};
 ghost use Rattle.feed_xml.specs.Trees.{next_tail, tail_after, tail_in};
 ghost use Rattle.feed_xml.specs.private.Places.{further, ordered, prolog_after, brackets_after, section_of, is_clear, steps, first_place, is_last};

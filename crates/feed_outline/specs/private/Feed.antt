@@ -70,11 +70,14 @@ emptied vocabulary after (Some root) name attributes f =
     ended after (Some root) (begun vocabulary (Some root) name attributes f)
 
 -- text, which outside of the root of a message is none
+abbrev pub said_in : Option (Result Dialect Wrong) → List ℕ → Growing → Growing
+said_in None text g = g
+said_in (Some (Err wrong)) text g = g
+said_in (Some (Ok d)) text g = texted g.passed text g
+
 abbrev pub spoken : {T : Type 0} → Option (Result Dialect Wrong) → List ℕ → Bool → Feed T → Feed T
-spoken None text known f = f
-spoken (Some (Err wrong)) text known f = f
-spoken (Some (Ok d)) text known f =
-    feeding f.taker f.root (texted f.child.passed text f.child) (known && f.known)
+spoken root text known f =
+    feeding f.taker f.root (said_in root text f.child) (known && f.known)
 
 -- what a token makes of what was taken of a message so far
 abbrev pub feed_said : {T : Type 0} → List Word → (T → List Line → T) → Feed T → Said → Feed T

@@ -3,8 +3,8 @@ use Rattle.std.specs.Prelude.{◌≡◌, ◌<◌, ◌≤◌, ℕ, true, List, []
 use Rattle.feed_xml.specs.declared.place.Place.{Place}
 use Rattle.feed_xml.specs.Distinct.{is_large}
 use Rattle.feed_xml.specs.private.Windows.{Advances}
-use Rattle.feed_xml.specs.Grammar.{Token, start}
-use Rattle.feed_xml.specs.Limits.{Follows}
+use Rattle.feed_xml.specs.Grammar.{Token}
+use Rattle.feed_xml.specs.Limits.{Follows, IsStart}
 use Rattle.feed_xml.specs.Pieces.{HasNoToken}
 use Rattle.feed_xml.specs.private.Places.{section_of}
 
@@ -20,9 +20,9 @@ pub record MeetsFrom (Limit : PlaceBound) (from : Place) (tokens : List Token)
   pub leads : Advances bytes tokens rest from place
   pub meets : Limit place rest
 
-abbrev pub IsStart : Token → Type 0
-IsStart (start name attributes space) = Unit {0}
-IsStart other = ⊥
+-- from this place on the bytes begin with these tokens
+abbrev pub BeginsAt : Place → List Token → List ℕ → Type 0
+BeginsAt = MeetsFrom (λ place rest. Unit {0})
 
 -- 1,000 elements are open, and these tokens are the start tag of another one
 abbrev pub OpensOneMore : Place → List Token → Type 0

@@ -8,9 +8,9 @@ use Rattle.feed_xml.specs.declared.place.Place.{Place}
 use Rattle.feed_xml.specs.Documents.{IsNoText}
 use Rattle.feed_xml.specs.EncodingNames.{encoding_name}
 use Rattle.feed_xml.specs.Grammar.{Token}
-use Rattle.feed_xml.specs.private.Bounds.{IsDeepAt, IsLargeAt, IsLongAt, MeetsFrom, PlaceBound}
+use Rattle.feed_xml.specs.private.Bounds.{BeginsAt, IsDeepAt, IsLargeAt, IsLongAt, MeetsFrom}
+use Rattle.feed_xml.specs.private.Bounds.{PlaceBound}
 use Rattle.feed_xml.specs.private.Places.{Completes, IsNeverComplete, first_place}
-use Rattle.feed_xml.specs.private.Windows.{BeginsAt}
 
 -- a document that begins so has an encoding of this name, which is none that is known
 abbrev pub IsUnknown : List ℕ → Fault → Type 0

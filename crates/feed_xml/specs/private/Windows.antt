@@ -24,11 +24,6 @@ IsTold (Some known) text = known ≡ text
 abbrev pub is_whole : List ℕ → Place → Part → Bool
 is_whole window p part = is_start part && (not (is_filled window) && is_last p)
 
--- from a place on the bytes begin with these tokens
-abbrev pub BeginsAt : Place → List Token → List ℕ → Type 0
-BeginsAt from tokens bytes =
-    (rest : List ℕ) × (place : Place) × Advances bytes tokens rest from place
-
 -- A piece of text went behind the old bytes, and the next byte is at this part of a character.
 -- Nothing is told where the piece is none of a text: then a front of it went behind them.
 abbrev pub Grows : List ℕ → List ℕ → Part → List ℕ → Option Part → Type 0

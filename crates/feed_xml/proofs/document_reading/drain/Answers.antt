@@ -30,11 +30,12 @@ returns-in-Ok-false-clause-fault g c =
       sym c.in-Ok-false.ensures.more ∙ is,
       (
         c.reading.invariant.tokens ++ piece_view c.in-Ok.piece,
-        (
-          c.in-Ok.next.now,
-          c.take_some.new.place,
-          advance_more c.args.window.now c.reading.rest.now c.in-Ok.next.now c.reading.invariant.tokens (piece_view c.in-Ok.piece) c.args.place.now c.reading.place c.take_some.new.place c.reading.invariant.advances c.in-Ok.ensures.ok c.in-Ok-take_some.ensures.ok,
-        ),
+        record {
+          rest = c.in-Ok.next.now;
+          place = c.take_some.new.place;
+          leads = advance_more c.args.window.now c.reading.rest.now c.in-Ok.next.now c.reading.invariant.tokens (piece_view c.in-Ok.piece) c.args.place.now c.reading.place c.take_some.new.place c.reading.invariant.advances c.in-Ok.ensures.ok c.in-Ok-take_some.ensures.ok;
+          meets = tt;
+        },
         c.in-Ok-false.ensures.taken ∙ ap (λ s. fold g.S.Sink.after s (piece_view c.in-Ok.piece)) c.reading.invariant.sunk
             ∙ sym (fold-append g.S.Sink.after c.args.sink.now c.reading.invariant.tokens (piece_view c.in-Ok.piece)),
       ),

@@ -6,7 +6,7 @@ ghost use Rattle.desk_reasons.specs.Refused.{IsFirst};
 ghost use Rattle.desk_texts.specs.Records.{Fields};
 ghost use Rattle.watched_output.specs.Shown.{shown};
 
-use crate::fields::{Field, Kind, hint, rule};
+use crate::fields::{Field, Kind};
 use crate::refused::first_refused;
 use crate::rows::{Form, PARTS, REQUESTS};
 use csv_records::fields::FieldBuffer;
@@ -36,11 +36,13 @@ fn sample_of(alloc: Global, form: &Form, given: &Record<'_>) -> Result<FieldBuff
     let mut fields = FieldBuffer::new(alloc);
     for place in 0..given.len() {
         let before = place.saturating_sub(1);
-        let text = match form.field(place).map(|field| field.kind) {
+        let text = match form.field(place) {
             None => form.name,
-            Some(Kind::Type) if field_at(given, place).is_empty() => "",
-            Some(Kind::Value) if field_at(given, before).is_empty() => "",
-            Some(kind) => rule(kind).0,
+            Some(field) => match field.kind {
+                Kind::Type if field_at(given, place).is_empty() => "",
+                Kind::Value if field_at(given, before).is_empty() => "",
+                _ => field.rule.0,
+            },
         };
         fields.push(text)?;
     }
@@ -72,14 +74,40 @@ fn push_value(text: &mut String, name: &str, value: &str) -> Result<(), AllocErr
     push_shown(text, value, 40)
 }
 
-/// Adds that a field is refused with this value.
+/// Adds that a field is refused with this value, and what to do, where its text shows it.
 pub(crate) fn push_broken(text: &mut String, field: Field, value: &str) -> Result<(), AllocError> {
-    let (_, meaning) = rule(field.kind);
+    let (_, meaning) = field.rule;
     if value.is_empty() {
         return write!(text, "{} is empty; it has to be {meaning}", field.name);
     }
     push_value(text, field.name, value)?;
-    write!(text, " is not {meaning}{}", hint(field.kind, value))
+    let digits = value.bytes().filter(|byte| byte.is_ascii_digit()).count();
+    let hint = match field.kind {
+        Kind::Isbn if digits == 13 => "; leave out hyphens and spaces",
+        Kind::Isbn if digits == 10 || digits == 9 && value.ends_with(['X', 'x']) => {
+            "; this looks like an ISBN of ten digits; write that of thirteen"
+        }
+        Kind::Day if digits == 8 && value.len() > 8 => {
+            "; leave out what is between the digits, and put the year first"
+        }
+        Kind::Country | Kind::Currency | Kind::Countries
+            if value.bytes().any(|byte| byte.is_ascii_lowercase()) => { "; write capital letters" }
+        Kind::Countries if value.contains([',', ';']) => "; put spaces between them",
+        Kind::Code | Kind::Type if value == "GLN" => "; the code of a GLN is 06",
+        Kind::Code | Kind::Type if digits == 1 && value.len() == 1 => {
+            "; a spreadsheet may have taken the 0 at its front"
+        }
+        Kind::Amount if value.contains(',') => "; write a point, and no comma",
+        Kind::Series if value.bytes().any(|byte| byte.is_ascii_uppercase()) => {
+            "; write small letters"
+        }
+        Kind::Series if value.contains([' ', '_']) => "; write - in place of a space",
+        Kind::FirstNumber => {
+            "; it is the MessageNumber of the first message that the sender sends, 1 as a rule"
+        }
+        _ => "",
+    };
+    write!(text, " is not {meaning}{hint}")
 }
 
 // Adds what is wrong with a record whose field at a place is refused.
@@ -133,15 +161,13 @@ fn push_miscounted(text: &mut String, given: &Record<'_>, form: &Form) -> Result
     }
     let fields = if count == 1 { "field" } else { "fields" };
     write!(text, "{count} {fields} behind its name, not {}", form.text)?;
-    if form.name == "Waive" {
-        return text.push_str(
-            "; the Number is that of a message that is missing and will not come, and onixdesk --db FILE gaps NAME shows which are missing",
-        );
-    }
-    if count > most && field_at(given, count).is_empty() {
-        text.push_str("; leave out the empty fields at its end, which a spreadsheet adds")?;
-    }
-    Ok(())
+    text.push_str(if form.name == "Waive" {
+        "; the Number is that of a message that is missing and will not come, and onixdesk --db FILE gaps NAME shows which are missing"
+    } else if count > most && field_at(given, count).is_empty() {
+        "; leave out the empty fields at its end, which a spreadsheet adds"
+    } else {
+        ""
+    })
 }
 
 // Adds what is wrong with a record of this form behind the records of a text, and says whether
@@ -219,24 +245,6 @@ fn push_part(
     }
 }
 
-// Adds why the first record of a piece is wrong.
-fn push_first(alloc: Global, text: &mut String, given: &Record<'_>) -> Result<(), AllocError> {
-    let name = field_at(given, 0);
-    if PARTS.iter().any(|part| part.form.name == name) {
-        return text.push_str("it belongs into a message, behind its Message");
-    }
-    let Some(form) = REQUESTS.iter().find(|form| form.name == name) else {
-        let words = "no request has this name; a text of requests has no heading";
-        return push_misnamed(text, name, words);
-    };
-    if push_wrong(alloc, text, "", form, given)? {
-        return Ok(());
-    }
-    text.push_str(
-        "deliver takes one message; batch takes a text of requests: onixdesk --db FILE batch < FILE",
-    )
-}
-
 /// Adds why a piece stops being a request at this row, counted from 1, where its records end at the
 /// latest.
 pub(crate) fn push_cause(
@@ -259,12 +267,24 @@ pub(crate) fn push_cause(
     let name = field_at(&given, 0);
     push_value(text, "", name)?;
     text.push_str(": ")?;
-    if index == 0 {
-        push_first(alloc, text, &given)
-    } else if field_at(&piece.record(0), 0) == "Message" {
-        push_part(alloc, text, piece, index)
-    } else {
+    if index > 0 {
+        if field_at(&piece.record(0), 0) == "Message" {
+            return push_part(alloc, text, piece, index);
+        }
         let words = "the request before it is one record, and no request has this name";
-        push_misnamed(text, name, words)
+        return push_misnamed(text, name, words);
     }
+    if PARTS.iter().any(|part| part.form.name == name) {
+        return text.push_str("it belongs into a message, behind its Message");
+    }
+    let Some(form) = REQUESTS.iter().find(|form| form.name == name) else {
+        let words = "no request has this name; a text of requests has no heading";
+        return push_misnamed(text, name, words);
+    };
+    if push_wrong(alloc, text, "", form, &given)? {
+        return Ok(());
+    }
+    text.push_str(
+        "deliver takes one message; batch takes a text of requests: onixdesk --db FILE batch < FILE",
+    )
 }

@@ -12,6 +12,29 @@ pub(crate) struct Form {
     pub(crate) fields: &'static [Field],
 }
 
+// A text that a field of a kind may have, and what its text has to be.
+macro_rules! rule {
+    (Series) => { ("a", "1 to 32 characters of a to z, 0 to 9 and -") };
+    (Code) => { ("02", "two digits") };
+    (Type) => { ("02", "two digits") };
+    (Filled) => { ("a", "a text that is not empty") };
+    (Anything) => { ("a", "a text") };
+    (Value) => { ("a", "a text") };
+    (SupplierName) => { ("a", "a text") };
+    (Number) => { ("1", "a number of 1 or more, in at most 9 digits") };
+    (FirstNumber) => { ("1", "a number of 1 or more, in at most 9 digits") };
+    (Digits) => { ("1", "1 to 9 digits") };
+    (Isbn) => { ("9781234567897", "thirteen digits") };
+    (Day) => { ("20250301", "a day of the calendar, YYYYMMDD") };
+    (Country) => { ("GB", "two capital letters") };
+    (Currency) => { ("GBP", "three capital letters") };
+    (Quantity) => { ("1", "a number of 1 or more, in at most 6 digits") };
+    (Amount) => { ("1", "1 to 9 digits, and at most 3 behind a point") };
+    (Countries) => { ("", "countries of two capital letters with spaces between them") };
+    (World) => { ("", "WORLD or empty") };
+    (Form) => { ("1", "1 or 2") };
+}
+
 // A form: its name, how many fields, and each by its name and what it has to be; the one behind a
 // semicolon may be left out.
 macro_rules! form {
@@ -21,8 +44,8 @@ macro_rules! form {
             name: $form,
             text: concat!($count, ": ", $form $(, ",", $name)* $(, "[,", $last, "]")?),
             fields: &[
-                $(Field { name: $name, kind: Kind::$kind },)*
-                $(Field { name: $last, kind: Kind::$other },)?
+                $(Field { name: $name, kind: Kind::$kind, rule: rule!($kind) },)*
+                $(Field { name: $last, kind: Kind::$other, rule: rule!($other) },)?
             ],
         }
     };

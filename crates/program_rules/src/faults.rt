@@ -23,25 +23,6 @@ fn text_with(alloc: Global, form: &Form, item: &Table, judged: &Key) -> Result<S
     Ok(text)
 }
 
-// The first key for which an item is none.
-fn first_wrong(
-    alloc: Global,
-    form: &Form,
-    item: &Table,
-) -> Result<Option<&'static Key>, AllocError> {
-    for key in form.keys {
-        let text = text_with(alloc, form, item, key)?;
-        let is_taken = match form.array {
-            "rule" => Precedence::read(alloc, text.as_str()).is_ok(),
-            _ => Terms::read(alloc, text.as_str()).is_ok(),
-        };
-        if !is_taken {
-            return Ok(Some(key));
-        }
-    }
-    Ok(None)
-}
-
 // That a table has another key than these, with commas between them, where it has one.
 fn why_other(alloc: Global, names: &str, table: &Table) -> Result<Option<String>, AllocError> {
     for key in table.keys() {
@@ -54,7 +35,7 @@ fn why_other(alloc: Global, names: &str, table: &Table) -> Result<Option<String>
     Ok(None)
 }
 
-// Why an item is none.
+// Why an item is none: another key, or the first of its own for which it is.
 fn why_item(alloc: Global, form: &Form, item: Option<&Value>) -> Result<String, AllocError> {
     let Some(item) = item.and_then(Value::as_table) else {
         return String::from_str(alloc, "no table");
@@ -62,13 +43,22 @@ fn why_item(alloc: Global, form: &Form, item: Option<&Value>) -> Result<String, 
     if let Some(why) = why_other(alloc, form.names, item)? {
         return Ok(why);
     }
-    match first_wrong(alloc, form, item)? {
-        Some(key) if item.get(key.name).is_some() => {
-            format!(in alloc; "{} is not {}", key.name, key.rule)
+    for key in form.keys {
+        let text = text_with(alloc, form, item, key)?;
+        let is_taken = match form.array {
+            "rule" => Precedence::read(alloc, text.as_str()).is_ok(),
+            _ => Terms::read(alloc, text.as_str()).is_ok(),
+        };
+        if !is_taken {
+            let is = if item.get(key.name).is_some() {
+                "not"
+            } else {
+                "missing; it has to be"
+            };
+            return format!(in alloc; "{} is {is} {}", key.name, key.rule);
         }
-        Some(key) => { format!(in alloc; "{} is missing; it has to be {}", key.name, key.rule) }
-        None => String::from_str(alloc, "past number 1000"),
     }
+    String::from_str(alloc, "past number 1000")
 }
 
 // Why a text is no table, or why the item at a number of its array is none.

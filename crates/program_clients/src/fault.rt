@@ -24,14 +24,8 @@ pub enum Fault {
     Socket,
     #[error("onixdesk: memory\n")]
     Memory,
-    #[error("onixdesk: storage: memory\n")]
-    StorageMemory,
-    #[error("onixdesk: storage: size\n")]
-    StorageSize,
-    #[error("onixdesk: storage: disk\n")]
-    StorageDisk,
-    #[error("onixdesk: storage: unusable\n")]
-    StorageUnusable,
+    #[error("onixdesk: storage: {0}\n")]
+    Storage(#[from] StoreFault),
     #[error("onixdesk: storage: other version {0}\n")]
     StorageOtherVersion(u32),
 }
@@ -49,17 +43,6 @@ impl From<RecordFault> for Fault {
             RecordFault::TooLarge => Fault::InputTooLarge,
             RecordFault::NotUtf8 => Fault::InputNotUtf8,
             RecordFault::Memory => Fault::Memory,
-        }
-    }
-}
-
-impl From<StoreFault> for Fault {
-    fn from(fault: StoreFault) -> Fault {
-        match fault {
-            StoreFault::Memory => Fault::StorageMemory,
-            StoreFault::Size => Fault::StorageSize,
-            StoreFault::Disk => Fault::StorageDisk,
-            StoreFault::Unusable => Fault::StorageUnusable,
         }
     }
 }

@@ -1,7 +1,8 @@
 //! A port of 127.0.0.1, whose clients come over sockets.
 
-ghost use Rattle.std.specs.Prelude.{◌≡◌, IfSome, false};
+ghost use Rattle.std.specs.Prelude.{◌≡◌, IfErr, IfOk, IfSome, false};
 ghost use Rattle.program_clients.specs.Streams.{AcceptsStream};
+ghost use Rattle.program_clients.specs.declared.fault.Fault.{Fault};
 
 use crate::clients::Protocol;
 use crate::fault::{CausedFault, Fault};
@@ -33,7 +34,10 @@ pub(crate) fn is_lost(error: &io::Error) -> bool {
 
 impl<'a> Port<'a> {
     /// Listens at a port of 127.0.0.1.
-    pub(crate) fn open(rt: &'a HostRuntime, number: u16) -> Result<Port<'a>, CausedFault> {
+    pub(crate) fn open(rt: &'a HostRuntime, number: u16) -> Result<Port<'a>, CausedFault>
+        ensures port { IfOk result (λ port. port.number ≡ number) }
+        ensures fault { IfErr result (λ caused. caused.fault ≡ Fault.Port number) }
+    {
         let address = SocketAddr::V4(SocketAddrV4::new(Ipv4Addr::LOCALHOST, number));
         match TcpListener::bind(rt, address) {
             Ok(listener) => Ok(Port {

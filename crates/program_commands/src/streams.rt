@@ -1,5 +1,7 @@
 //! The streams of a command.
 
+ghost use Rattle.std.specs.Prelude.{◌≡◌, [], None};
+
 use crate::malformed::MOST_LINES;
 use crate::unread::WrongByte;
 use desk_reasons::explaining::Room;
@@ -24,7 +26,11 @@ pub struct Errors<E> {
 
 impl<E> Errors<E> {
     /// Standard error to which nothing was written yet, with no hint.
-    pub fn new(writer: E, is_terminal: bool) -> Errors<E> {
+    pub fn new(writer: E, is_terminal: bool) -> Errors<E>
+        ensures writer { (result.writer ≡ writer) × (result.is_terminal ≡ is_terminal) }
+        ensures nothing { (result.room ≡ record { most = 100; malformed = 0 })
+            × (result.since ≡ None) × (result.hint.now ≡ []) × (result.wrong ≡ None) }
+    {
         Errors {
             writer,
             is_terminal,

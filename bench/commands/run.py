@@ -1,10 +1,10 @@
-"""Prints the figures of the program `onixdesk` as two tables: those of docs/BENCHMARKS.md and that of docs/SCALE.md.
+"""Prints the figures of the program `onixdesk` as two tables, and puts the first into docs/BENCHMARKS.md.
 
     bench/run [--desk PROGRAM] [--small]
 
-Without a PROGRAM it measures the proved one, which tools/build builds if a source has changed. Its files are in the
-folder for temporary files. It reports on standard error what it could not measure, with status 1. --small divides all
-sizes by five hundred, to try this command; it measures nothing.
+Without a PROGRAM it measures the proved one, which tools/build builds if a source has changed; only then it changes the
+page. Its files are in the folder for temporary files. It reports on standard error what it could not measure, with
+status 1. --small divides all sizes by five hundred, to try this command; it measures nothing.
 """
 
 import argparse
@@ -14,7 +14,6 @@ import sys
 import tempfile
 from collections.abc import Callable, Iterator
 from datetime import date
-from functools import partial
 from pathlib import Path
 
 from bench.figures import growth, ratios
@@ -22,28 +21,26 @@ from bench.figures.ratios import Bench
 from bench.figures.runs import BenchmarkFault
 from tools.root import ROOT
 
-OF_BENCHMARKS: list[Callable[[Bench], Iterator[ratios.Figure]]] = [
-    ratios.messages_in_a_file,
-    ratios.messages_in_memory,
-    ratios.questions_for_prices,
-    ratios.questions_for_catalogues,
-    *(partial(ratios.conversion, feed) for feed in ratios.FEEDS),
-]
+PAGE = ROOT / "docs/BENCHMARKS.md"
 
 
-def print_table(head: str, *parts: Callable[[], Iterator[ratios.Figure] | Iterator[growth.Size]]) -> bool:
-    """Prints the lines of all parts; returns whether all could be measured."""
-    print(head, "|---" * (head.count("|") - 1) + "|", sep="\n", flush=True)
+def print_table(
+    bench: Bench, head: str, *parts: Callable[[Bench], Iterator[ratios.Figure] | Iterator[growth.Size]]
+) -> list[str]:
+    """Prints the lines of all parts; returns them, none if some could not be measured."""
+    lines = [head, "|---" * (head.count("|") - 1) + "|"]
+    print(*lines, sep="\n", flush=True)
     is_whole = True
     for part in parts:
         try:
-            for each in part():
-                print(each.line(), flush=True)
+            for each in part(bench):
+                lines.append(each.line())
+                print(lines[-1], flush=True)
         except (BenchmarkFault, subprocess.CalledProcessError) as fault:
             print(f"bench: {fault}", file=sys.stderr)
             is_whole = False
     print(flush=True)
-    return is_whole
+    return lines if is_whole else []
 
 
 def main() -> int:
@@ -57,10 +54,14 @@ def main() -> int:
     program = (given.desk or ROOT / "crates/onixdesk/out/onixdesk").resolve()
     with tempfile.TemporaryDirectory(prefix="onixdesk-") as folder:
         bench = Bench(program, Path(folder), 500 if given.small else 1)
-        is_whole = print_table("| Measure | Measured | Target |", *(partial(it, bench) for it in OF_BENCHMARKS))
+        table = print_table(bench, "| Measure | Measured | Target |", *ratios.ALL)
         model, *others = re.findall("model name\\s*: (.*)", Path("/proc/cpuinfo").read_text()) or ["unknown"]
-        print(f"One run on {date.today():%d %B %Y}, on {1 + len(others)} processors: {model}.\n", flush=True)
-        return 0 if print_table(growth.HEAD, partial(growth.sizes, bench)) and is_whole else 1
+        told = f"One run on {date.today():%-d %B %Y}, on {1 + len(others)} processors: {model}."
+        print(f"{told}\n", flush=True)
+        if table and not (given.desk or given.small):
+            made = "\n".join([*table, "", told])
+            PAGE.write_text(re.sub("[|] Measure.*?\nOne run[^\n]*", lambda _: made, PAGE.read_text(), flags=re.DOTALL))
+        return 0 if print_table(bench, growth.HEAD, growth.sizes) and table else 1
 
 
 if __name__ == "__main__":

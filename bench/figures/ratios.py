@@ -25,29 +25,22 @@ FEEDS = {
     "several Markets": ("block-update.xml", b"Product", b"nl-978190000"),
 }
 
-# Products that are written at once, all with the same beginning of their references.
-AT_ONCE = 200
-
 
 class Figure(NamedTuple):
-    """What is measured, its value, what that is made of, and the target, below zero where it is the least."""
+    """What is measured, its values, and their target, below zero where it is the least."""
 
     what: str
-    value: float
-    made_of: str
+    values: Sequence[float]
     target: float = 0
 
     def line(self) -> str:
         target = f"at {'most' if self.target > 0 else 'least'} {abs(self.target):g}" if self.target else ""
-        missed = ": **not met**" if 0 < self.target < self.value or self.value < -self.target else ""
-        return f"| {self.what} | {self.value:.3g} ({self.made_of}) | {target}{missed} |"
+        missed = ": **not met**" if 0 < self.target < max(self.values) or min(self.values) < -self.target else ""
+        return f"| {self.what} | {', '.join(f'{value:.3g}' for value in self.values)} | {target}{missed} |"
 
 
-def to(what: str, both: Sequence[Taken], target: float = 0) -> Figure:
-    """One to the other."""
-    one, other = both
-    of_both = f"{one.microseconds / 1_000:,.0f} to {other.microseconds / 1_000:,.0f} ms"
-    return Figure(what, one.microseconds / other.microseconds, of_both, target)
+def ratio(one: Taken, other: Taken) -> float:
+    return one.microseconds / other.microseconds
 
 
 class Bench(NamedTuple):
@@ -107,22 +100,21 @@ def messages_in_a_file(bench: Bench) -> Iterator[Figure]:
         raise BenchmarkFault("SQLite alone put other rows than the desk")
     both = least_of([Work(bench.batch(given, True), bench.batch(NOTHING, True), bench.made), alone])
     what = f"{count} messages of {PRODUCTS} products with a price each, into a new file"
-    yield to(f"{what}, to SQLite alone writing their rows", both, 4.6)
+    yield Figure(f"{what}, to SQLite alone writing their rows", [ratio(*both)], 4.6)
 
 
 def messages_in_memory(bench: Bench) -> Iterator[Figure]:
     given = bench.text("messages", [texts.AGREEMENT, *texts.greatest_messages(bench.size(MESSAGES))])
     work, size = Work(bench.batch(given), bench.batch(NOTHING)), given.stat().st_size
     what = f"{size / 1e6:.2f} MB of messages of 20 products, each with 2 supplies and 4 prices, applied in memory"
-    memory = taken(work.run).memory
-    yield Figure(f"peak memory of {what}, to the text", memory / size, f"{memory / 1e6:.1f} MB", 12.2)
-    for refusal, last in ("refused", "AskGaps,west\n"), ("malformed", "AskGaps\n"):
-        wrong = bench.text("wrong", [given.read_bytes(), last])
-        refused = work._replace(run=bench.batch(wrong)._replace(status=1))
-        yield to(f"{what}, with one {refusal} request behind them, to without it", least_of([refused, work]), 1.05)
+    yield Figure(f"peak memory of {what}, to the text", [taken(work.run).memory / size], 12.2)
+    wrong = [bench.text(last, [given.read_bytes(), f"{last}\n"]) for last in ("AskGaps,west", "AskGaps")]
+    plain, *others = least_of([work, *(work._replace(run=bench.batch(text)._replace(status=1)) for text in wrong)])
+    what = "these with one refused request, and with one malformed, to without"
+    yield Figure(what, [ratio(other, plain) for other in others], 1.05)
     records = tools.records(bench.folder)
     alone = Work(Run([records, given]), Run([records, NOTHING]))
-    yield to(f"{what}, to `csv` alone reading them", least_of([work, alone]))
+    yield Figure("these messages, to `csv` alone reading them", [ratio(*least_of([work, alone]))])
 
 
 def catalogue(records: int, *questions: str) -> Iterator[str]:
@@ -147,7 +139,7 @@ def questions_for_prices(bench: Bench) -> Iterator[Figure]:
     if offers_in(output_of(alone.run)) != offers_in(output_of(asked)):
         raise BenchmarkFault("SQLite alone gave other answers than the desk")
     what = f"{count:,} price questions about {size:,} records in memory, to SQLite alone in memory"
-    yield to(what, least_of([Work(asked, plain), alone]), 1.5)
+    yield Figure(what, [ratio(*least_of([Work(asked, plain), alone]))], 1.5)
 
 
 def questions_for_catalogues(bench: Bench) -> Iterator[Figure]:
@@ -159,33 +151,40 @@ def questions_for_catalogues(bench: Bench) -> Iterator[Figure]:
     answer = bench.text("answer", [answers[answers.index(b"catalogue,") :]])
     alone = Work(Run([records, answer, str(count)]), Run([records, answer, "0"]))
     what = f"{count} catalogues of {size:,} records answered, to `csv` alone writing their records"
-    yield to(what, least_of([Work(asked, plain), alone]), 6)
+    yield Figure(what, [ratio(*least_of([Work(asked, plain), alone]))], 6)
 
 
 def pieces(name: str, element: bytes, reference: bytes, size: int) -> Iterator[bytes]:
-    """A feed of about so many bytes: the sample's products again and again."""
+    """A feed of about so many bytes: the products of a sample, a hundred times with the same references, and again."""
     text = (ROOT / "tests/feeds" / name).read_bytes()
     first, last = text.index(b"<%s" % element), text.rindex(b"</%s>" % element)
     end = text.index(b">", last) + 1
-    products = text[first:end] * (AT_ONCE // 2)
+    products = text[first:end] * 100
     yield text[:first]
     for number in range(max(1, size // len(products))):
         yield products.replace(reference, b"%s%07d-" % (reference, number))
     yield text[end:]
 
 
-def conversion(name: str, bench: Bench) -> Iterator[Figure]:
+def conversion(name: str, bench: Bench) -> tuple[float, float, float]:
+    """MB a second, peak MB, and the ratio to `csv` alone."""
     megabytes = bench.size(MEGABYTES)
     feed = bench.text("feed.xml", pieces(*FEEDS[name], megabytes * 1_000_000))
-    size = feed.stat().st_size / 1e6
     # More parts than the records need.
     words: list[Word] = [bench.program, "convert", "--parts", str(megabytes), "-o", bench.made, feed]
     work = Work(Run(words), Run([bench.program, "--version"]), bench.made)
     (plain,) = least_of([work])
     answer = bench.text("answer", (part.read_bytes() for part in sorted(bench.made.iterdir())))
-    speed = size * 1e6 / plain.microseconds
-    yield Figure(f"MB of XML a second, {name}", speed, f"{size:.0f} MB in {plain.microseconds / 1e6:.2f} s", -60)
-    yield Figure("peak memory of that, MB", plain.memory / 1e6, "peak", 16)
     records = tools.records(bench.folder)
-    alone = Work(Run([records, answer]), Run([records, NOTHING]))
-    yield to("that conversion, to `csv` alone reading the records that it makes", [plain, *least_of([alone])])
+    (alone,) = least_of([Work(Run([records, answer]), Run([records, NOTHING]))])
+    return feed.stat().st_size / plain.microseconds, plain.memory / 1e6, ratio(plain, alone)
+
+
+def conversions(bench: Bench) -> Iterator[Figure]:
+    speeds, memories, ratios = zip(*(conversion(name, bench) for name in FEEDS))
+    yield Figure(f"MB of XML a second, of {bench.size(MEGABYTES)} MB: {', '.join(FEEDS)}", speeds, -60)
+    yield Figure("peak memory of that, MB", memories, 16)
+    yield Figure("that conversion, to `csv` alone reading the records that it makes", ratios)
+
+
+ALL = [messages_in_a_file, messages_in_memory, questions_for_prices, questions_for_catalogues, conversions]

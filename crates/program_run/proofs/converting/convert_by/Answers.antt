@@ -11,15 +11,21 @@ pub returns-clause-end : goal.returns-clause-end
 returns-clause-end g c =
     let conversion = c.args.conversion.now in
     let input = g.R.Read.remaining c.args.streams.now.input in
-    let before = g.F.NamedFiles.holds c.args.files.now in
+    let before = g.F.NamedFiles.holds c.leave-leave.new.self in
     let after = g.F.NamedFiles.holds c.convert_files.new.files in
-    let lacks = g.F.NamedFiles.lacks_folder c.args.files.now in
+    let lacks = g.F.NamedFiles.lacks_folder c.leave-leave.new.self in
     let written = Appends (g.W.Write.contents c.args.streams.now.output) (g.W.Write.contents c.convert_files.new.output) in
     let status = c.convert_files.result in
     let folder = option_map (λ (name : Bor (List ℕ)). name.now) conversion.folder in
-    subst (λ choices. FilesEnd (asking (options_view (record { choices = choices; wrong = conversion.options.wrong; terms = c.args.terms })) folder)
+    let view = asking (options_view (record { choices = conversion.options.choices; wrong = conversion.options.wrong; terms = c.args.terms })) folder in
+    let names = map (λ (name : Bor (List ℕ)). name.now) conversion.files.items in
+    subst (λ none. FilesEnd view input (g.F.NamedFiles.holds c.args.files.now) after none names (λ ends. written (outputs ends)) status)
+    c.leave-leave.ensures.folders
+    (subst (λ held. FilesEnd view input held after lacks names (λ ends. written (outputs ends)) status)
+    c.leave-leave.ensures.holds
+    (subst (λ choices. FilesEnd (asking (options_view (record { choices = choices; wrong = conversion.options.wrong; terms = c.args.terms })) folder)
     input before after lacks (map (λ (name : Bor (List ℕ)). name.now) conversion.files.items) (λ ends. written (outputs ends)) status)
     c.copied.ensures
     (subst (λ names. FilesEnd (asking (options_view (record { choices = c.copied.result; wrong = conversion.options.wrong; terms = c.args.terms })) folder)
     input before after lacks (map (λ (name : Bor (List ℕ)). name.now) names) (λ ends. written (outputs ends)) status)
-    c.as_slice-names.ensures.value c.convert_files.ensures.end)
+    c.as_slice-names.ensures.value c.convert_files.ensures.end)))

@@ -47,7 +47,8 @@ pub trait NamedFiles {
     /// they held.
     fn leave(&mut self) -> Self::Leave
         ensures holds { holds self.new ≡ holds self.old }
-        ensures folders { lacks_folder self.new ≡ lacks_folder self.old };
+        ensures folders { (name : List ℕ) → lacks_folder self.new name
+            → lacks_folder self.old name };
 
     /// A new file without a name. It is gone with the program.
     fn new_scratch(&self, leave: &Self::Leave) -> Result<Self::Scratch, FileFault>;

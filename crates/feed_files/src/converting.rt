@@ -316,26 +316,13 @@ fn convert_file<C: Clock, F: NamedFiles, R: Read, W: Write, E: Write>(
         Ok(reader) => reader,
         Err(fault) => return report_fault(showing.alloc, &fault, telling.errors),
     };
+    let reader = &mut reader;
     match run.folder {
         Some(folder) => convert_into(
-            showing,
-            file,
-            files,
-            leave,
-            &mut reader,
-            options,
-            folder,
-            telling,
+            showing, file, files, leave, reader, options, folder, telling,
         ),
         None => convert_out(
-            showing,
-            file,
-            files,
-            leave,
-            &mut reader,
-            options,
-            output,
-            telling,
+            showing, file, files, leave, reader, options, output, telling,
         ),
     }
 }
@@ -382,7 +369,6 @@ pub fn convert_files<C: Clock, F: NamedFiles, R: Read, W: Write, E: Write>(
     run: &Run<'_>,
     names: &[&str],
     files: &mut F,
-    leave: &F::Leave,
     input: &mut R,
     output: &mut W,
     errors: &mut E,
@@ -397,6 +383,7 @@ pub fn convert_files<C: Clock, F: NamedFiles, R: Read, W: Write, E: Write>(
     if !has_folder(alloc, run, files, errors) {
         return 3;
     }
+    let leave = files.leave();
     let mut telling = Telling {
         errors,
         summary: Summary::new(alloc),
@@ -408,7 +395,7 @@ pub fn convert_files<C: Clock, F: NamedFiles, R: Read, W: Write, E: Write>(
             run,
             file,
             files,
-            leave,
+            &leave,
             input,
             output,
             &mut telling,

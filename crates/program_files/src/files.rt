@@ -46,9 +46,7 @@ pub trait NamedFiles {
     /// Gives leave to make files, which who borrows files only to read cannot take. Names hold what
     /// they held.
     fn leave(&mut self) -> Self::Leave
-        ensures holds { holds self.new ≡ holds self.old }
-        ensures folders { (name : List ℕ) → lacks_folder self.new name
-            → lacks_folder self.old name };
+        ensures { holds self.new ≡ holds self.old };
 
     /// A new file without a name. It is gone with the program.
     fn new_scratch(&self, leave: &Self::Leave) -> Result<Self::Scratch, FileFault>;

@@ -33,7 +33,7 @@ fn copied<'a>(choices: &Choices<'a>) -> Choices<'a>
     }
 }
 
-// Converts FILEs by these terms or by none, with leave to make files.
+// Converts FILEs by these terms or by none.
 fn convert_by<C: Clock, F: NamedFiles, R: Read, W: Write, E: Write>(
     alloc: Global,
     clock: &C,
@@ -62,13 +62,11 @@ fn convert_by<C: Clock, F: NamedFiles, R: Read, W: Write, E: Write>(
         is_shown: streams.errors.is_terminal,
     };
     let names = conversion.files.as_slice();
-    let leave = files.leave();
     convert_files(
         &showing,
         &run,
         names,
         files,
-        &leave,
         &mut streams.input,
         &mut streams.output,
         &mut streams.errors.writer,

@@ -16,8 +16,7 @@ use crate::summary::Summary;
 use crate::watched::{Showing, Watched};
 use feed_conversion::{Counted, Fault, Options, Outcome, convert};
 use program_files::{
-    FileFault, MadeFiles, MakesFiles, NamedFiles, PartFiles, STANDARD_INPUT, Spool, is_packed,
-    name_of,
+    FileFault, MadeFiles, NamedFiles, PartFiles, STANDARD_INPUT, Spool, is_packed, name_of,
 };
 use std::alloc::{AllocError, Global};
 use std::io::{Read, Write};
@@ -152,7 +151,7 @@ fn tell<E: Write>(notes: &Notes<'_>, telling: &mut Telling<'_, E>) {
 }
 
 // Converts a FILE to standard output.
-fn convert_out<C: Clock, F: MakesFiles, R: Read, W: Write, E: Write>(
+fn convert_out<C: Clock, F: NamedFiles, R: Read, W: Write, E: Write>(
     showing: &Showing<'_, C>,
     file: &str,
     files: &F,
@@ -195,7 +194,7 @@ fn convert_out<C: Clock, F: MakesFiles, R: Read, W: Write, E: Write>(
 }
 
 // Gives the files of a FILE their names, and says whether they have them.
-fn place_parts<F: MakesFiles, E: Write>(
+fn place_parts<F: NamedFiles, E: Write>(
     alloc: Global,
     files: &mut F,
     made: &MadeFiles<F>,
@@ -214,7 +213,7 @@ fn place_parts<F: MakesFiles, E: Write>(
 }
 
 // Converts a FILE into a folder.
-fn convert_into<C: Clock, F: MakesFiles, R: Read, E: Write>(
+fn convert_into<C: Clock, F: NamedFiles, R: Read, E: Write>(
     showing: &Showing<'_, C>,
     file: &str,
     files: &mut F,
@@ -282,7 +281,7 @@ fn report_packed<E: Write>(alloc: Global, file: &str, errors: &mut E) -> Ended
 }
 
 // Converts one FILE.
-fn convert_file<C: Clock, F: MakesFiles, R: Read, W: Write, E: Write>(
+fn convert_file<C: Clock, F: NamedFiles, R: Read, W: Write, E: Write>(
     showing: &Showing<'_, C>,
     run: &Run<'_>,
     file: &str,
@@ -317,26 +316,13 @@ fn convert_file<C: Clock, F: MakesFiles, R: Read, W: Write, E: Write>(
         Ok(reader) => reader,
         Err(fault) => return report_fault(showing.alloc, &fault, telling.errors),
     };
+    let reader = &mut reader;
     match run.folder {
         Some(folder) => convert_into(
-            showing,
-            file,
-            files,
-            leave,
-            &mut reader,
-            options,
-            folder,
-            telling,
+            showing, file, files, leave, reader, options, folder, telling,
         ),
         None => convert_out(
-            showing,
-            file,
-            files,
-            leave,
-            &mut reader,
-            options,
-            output,
-            telling,
+            showing, file, files, leave, reader, options, output, telling,
         ),
     }
 }
@@ -378,12 +364,11 @@ fn has_folder<F: NamedFiles, E: Write>(
 /// name, and gives the status: 0, or 1 where one was refused or a wrong product left out, or 3
 /// where a file could not be read or written or memory ran out, which outweighs 1. What one ends
 /// in does not keep the others from being converted.
-pub fn convert_files<C: Clock, F: MakesFiles, R: Read, W: Write, E: Write>(
+pub fn convert_files<C: Clock, F: NamedFiles, R: Read, W: Write, E: Write>(
     showing: &Showing<'_, C>,
     run: &Run<'_>,
     names: &[&str],
     files: &mut F,
-    leave: &F::Leave,
     input: &mut R,
     output: &mut W,
     errors: &mut E,
@@ -398,6 +383,7 @@ pub fn convert_files<C: Clock, F: MakesFiles, R: Read, W: Write, E: Write>(
     if !has_folder(alloc, run, files, errors) {
         return 3;
     }
+    let leave = files.leave();
     let mut telling = Telling {
         errors,
         summary: Summary::new(alloc),
@@ -409,7 +395,7 @@ pub fn convert_files<C: Clock, F: MakesFiles, R: Read, W: Write, E: Write>(
             run,
             file,
             files,
-            leave,
+            &leave,
             input,
             output,
             &mut telling,

@@ -1,7 +1,7 @@
 //! Where the parts of a message are kept until the whole FILE was read.
 
 use onix_terms::items::Items;
-use program_files::{FileFault, MakesFiles, PartFiles, Spool};
+use program_files::{FileFault, NamedFiles, PartFiles, Spool};
 
 /// Keeps the texts of parts.
 pub trait Store {
@@ -21,7 +21,7 @@ pub trait Store {
         ensures { OnOk result (texts self.new ≡ with_text (texts self.old) text.now) };
 }
 
-impl<'a, F: MakesFiles> Store for Spool<'a, F> {
+impl<'a, F: NamedFiles> Store for Spool<'a, F> {
     ghost use Rattle.program_files.specs.Texts.{told_texts, with_text};
 
     type Texts = Option<Items<u8>>;
@@ -35,7 +35,7 @@ impl<'a, F: MakesFiles> Store for Spool<'a, F> {
     }
 }
 
-impl<'a, F: MakesFiles> Store for PartFiles<'a, F> {
+impl<'a, F: NamedFiles> Store for PartFiles<'a, F> {
     type Texts = ();
 
     ghost with_text = { λ kept text. kept };

@@ -3,7 +3,11 @@
 use crate::fault::FileFault;
 use std::io::Read;
 
-/// Files by their names, to be read: whoever is lent this makes, changes and removes none.
+/// Files by their names, and new ones, which `convert` alone makes: only who has leave makes any.
+///
+/// A message is written into files that are made under hidden names, so that nobody takes a part
+/// of it for the whole, and that get their own names when all are whole. Hidden names are none of
+/// those that hold texts here.
 pub trait NamedFiles {
     ghost use Rattle.std.specs.Prelude.{◌≡◌, List, Option, ℕ, IfOk, false};
 
@@ -16,27 +20,7 @@ pub trait NamedFiles {
     /// Reads a file.
     type Reader: Read + Drop;
 
-    /// Whether a folder has this name.
-    fn is_folder(&self, name: &str) -> bool
-        ensures { result ≡ false → lacks_folder self.now name.now };
-
-    /// The size of the file of this name, where it is a regular one.
-    fn size(&self, name: &str) -> Option<u64>;
-
-    /// Opens the file of this name to be read.
-    fn open(&self, name: &str) -> Result<Self::Reader, FileFault>
-        ensures { IfOk result (λ reader. Self.Reader.remaining reader ≡ holds self.now name.now) };
-}
-
-/// Files by their names, and new ones, which `convert` alone makes.
-///
-/// A message is written into files that are made under hidden names, so that nobody takes a part
-/// of it for the whole, and that get their own names when all are whole. Hidden names are none of
-/// those that hold texts here.
-pub trait MakesFiles: NamedFiles {
-    ghost use Rattle.std.specs.Prelude.{◌≡◌};
-
-    /// The leave to make files. Whoever is lent files to be read alone has none.
+    /// The leave to make files.
     type Leave: Drop;
 
     /// A file for temporary use, which has no name.
@@ -48,10 +32,21 @@ pub trait MakesFiles: NamedFiles {
     /// A file that was made under a hidden name.
     type Made: Drop;
 
-    /// Gives leave to make files. Names hold what they held.
+    /// Whether a folder has this name.
+    fn is_folder(&self, name: &str) -> bool
+        ensures { result ≡ false → lacks_folder self.now name.now };
+
+    /// The size of the file of this name, where it is a regular one.
+    fn size(&self, name: &str) -> Option<u64>;
+
+    /// Opens the file of this name to be read.
+    fn open(&self, name: &str) -> Result<Self::Reader, FileFault>
+        ensures { IfOk result (λ reader. Self.Reader.remaining reader ≡ holds self.now name.now) };
+
+    /// Gives leave to make files, which who borrows files only to read cannot take. Names hold what
+    /// they held.
     fn leave(&mut self) -> Self::Leave
-        ensures holds { Self.holds self.new ≡ Self.holds self.old }
-        ensures folders { Self.lacks_folder self.new ≡ Self.lacks_folder self.old };
+        ensures { holds self.new ≡ holds self.old };
 
     /// A new file without a name. It is gone with the program.
     fn new_scratch(&self, leave: &Self::Leave) -> Result<Self::Scratch, FileFault>;

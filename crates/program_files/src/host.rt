@@ -1,7 +1,7 @@
 //! The files of the machine.
 
 use crate::fault::FileFault;
-use crate::files::{MakesFiles, NamedFiles};
+use crate::files::NamedFiles;
 use crate::hidden::Hidden;
 use crate::host_calls::{create_beside, create_new, is_empty, is_same, or_fault};
 use crate::names::path_in;
@@ -119,6 +119,14 @@ impl<'a> NamedFiles for HostFiles<'a> {
 
     type Reader = File;
 
+    type Leave = ();
+
+    type Scratch = File;
+
+    type Hidden = Hidden;
+
+    type Made = HiddenFile;
+
     fn is_folder(&self, name: &str) -> bool {
         match fs::metadata(self.rt, name) {
             Ok(found) => found.is_dir(),
@@ -136,16 +144,6 @@ impl<'a> NamedFiles for HostFiles<'a> {
     fn open(&self, name: &str) -> Result<File, FileFault> {
         or_fault(self.rt, name, File::open(self.rt, name))
     }
-}
-
-impl<'a> MakesFiles for HostFiles<'a> {
-    type Leave = ();
-
-    type Scratch = File;
-
-    type Hidden = Hidden;
-
-    type Made = HiddenFile;
 
     fn leave(&mut self) {}
 

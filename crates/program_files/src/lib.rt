@@ -17,7 +17,7 @@ mod spool;
 mod targets;
 
 pub use fault::FileFault;
-pub use files::{MakesFiles, NamedFiles};
+pub use files::NamedFiles;
 pub use hidden::Hidden;
 pub use host::{HiddenFile, HostFiles};
 pub use names::{STANDARD_INPUT, is_packed, name_of};

@@ -1,14 +1,14 @@
 //! The parts of a message as files of a folder, made under hidden names.
 
 use crate::fault::FileFault;
-use crate::files::MakesFiles;
+use crate::files::NamedFiles;
 use crate::placing::name_all;
 use crate::targets::targets_of;
 use std::alloc::Global;
 
 /// The files of the parts of one message.
 #[derive(Drop)]
-pub struct PartFiles<'a, F: MakesFiles> {
+pub struct PartFiles<'a, F: NamedFiles> {
     alloc: Global,
     files: &'a F,
     leave: &'a F::Leave,
@@ -20,13 +20,13 @@ pub struct PartFiles<'a, F: MakesFiles> {
 
 /// The files of the parts of one message, all of which were made.
 #[derive(Drop)]
-pub struct MadeFiles<F: MakesFiles> {
+pub struct MadeFiles<F: NamedFiles> {
     alloc: Global,
     hidden: Option<F::Hidden>,
     made: Vec<F::Made>,
 }
 
-impl<'a, F: MakesFiles> PartFiles<'a, F> {
+impl<'a, F: NamedFiles> PartFiles<'a, F> {
     /// No part yet, of a message of this NAME that goes into that folder.
     pub fn new(
         alloc: Global,
@@ -89,7 +89,7 @@ impl<'a, F: MakesFiles> PartFiles<'a, F> {
     }
 }
 
-impl<F: MakesFiles> MadeFiles<F> {
+impl<F: NamedFiles> MadeFiles<F> {
     /// Gives the files the names of the parts of a message of this NAME in so many parts, in that
     /// folder: all of them or, with a fault, none where those that were given can be taken back. A
     /// file that has such a name already keeps it: that is a fault, unless it has the same text, or

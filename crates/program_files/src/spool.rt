@@ -7,7 +7,7 @@ ghost use Rattle.csv_records.specs.RecordTexts.{limit};
 ghost use Rattle.program_files.specs.Texts.{IsWritten, told_texts, with_text};
 
 use crate::fault::FileFault;
-use crate::files::MakesFiles;
+use crate::files::NamedFiles;
 use csv_records::reading::LIMIT;
 use csv_records::streams::{WriteFault, write_whole};
 use std::alloc::Global;
@@ -22,7 +22,7 @@ const STANDARD_OUTPUT: &str = "standard output";
 
 /// The texts of the parts of one FILE.
 #[derive(Drop)]
-pub struct Spool<'a, F: MakesFiles> {
+pub struct Spool<'a, F: NamedFiles> {
     alloc: Global,
     files: &'a F,
     leave: &'a F::Leave,
@@ -67,7 +67,7 @@ fn has_room(before: usize, more: usize) -> bool
     before <= LIMIT && more <= LIMIT - before
 }
 
-impl<'a, F: MakesFiles> Spool<'a, F> {
+impl<'a, F: NamedFiles> Spool<'a, F> {
     /// No part yet.
     pub fn new(alloc: Global, files: &'a F, leave: &'a F::Leave) -> Spool<'a, F>
         ensures { told_texts result.first.items result.rest ≡ Some [] }

@@ -10,7 +10,7 @@ use feed_files::{Run, Showing, convert_files};
 use feed_mapping::Choices;
 use feed_terms::table::Terms;
 use program_commands::streams::Streams;
-use program_files::MakesFiles;
+use program_files::NamedFiles;
 use program_rules::terms::open_terms;
 use program_words::convert_words::Conversion;
 use std::alloc::Global;
@@ -34,13 +34,12 @@ fn copied<'a>(choices: &Choices<'a>) -> Choices<'a>
 }
 
 // Converts FILEs by these terms or by none.
-fn convert_by<C: Clock, F: MakesFiles, R: Read, W: Write, E: Write>(
+fn convert_by<C: Clock, F: NamedFiles, R: Read, W: Write, E: Write>(
     alloc: Global,
     clock: &C,
     conversion: &Conversion<'_>,
     terms: Option<&Terms>,
     files: &mut F,
-    leave: &F::Leave,
     streams: &mut Streams<R, W, E>,
 ) -> u8
     ensures status { result ≤ 3 }
@@ -68,20 +67,19 @@ fn convert_by<C: Clock, F: MakesFiles, R: Read, W: Write, E: Write>(
         &run,
         names,
         files,
-        leave,
         &mut streams.input,
         &mut streams.output,
         &mut streams.errors.writer,
     )
 }
 
-// Converts FILEs, by the terms of a file where one is named, with leave to make files.
-fn convert_with_leave<C: Clock, F: MakesFiles, R: Read, W: Write, E: Write>(
+/// Converts FILEs, by the terms of a file where one is named. Where there are no terms in that file,
+/// that is reported, and no FILE is opened.
+pub(crate) fn convert<C: Clock, F: NamedFiles, R: Read, W: Write, E: Write>(
     alloc: Global,
     clock: &C,
     conversion: &Conversion<'_>,
     files: &mut F,
-    leave: &F::Leave,
     streams: &mut Streams<R, W, E>,
 ) -> u8
     ensures status { result ≤ 3 }
@@ -91,37 +89,10 @@ fn convert_with_leave<C: Clock, F: MakesFiles, R: Read, W: Write, E: Write>(
         (asked_view conversion.now) result }
 {
     let Some(name) = conversion.terms else {
-        return convert_by(alloc, clock, conversion, None, files, leave, streams);
+        return convert_by(alloc, clock, conversion, None, files, streams);
     };
     match open_terms(alloc, files, name, &mut streams.errors.writer) {
-        Ok(terms) => convert_by(
-            alloc,
-            clock,
-            conversion,
-            Some(&terms),
-            files,
-            leave,
-            streams,
-        ),
+        Ok(terms) => convert_by(alloc, clock, conversion, Some(&terms), files, streams),
         Err(status) => status,
     }
-}
-
-/// Converts FILEs, by the terms of a file where one is named. Where there are no terms in that file,
-/// that is reported, and no FILE is opened.
-pub(crate) fn convert<C: Clock, F: MakesFiles, R: Read, W: Write, E: Write>(
-    alloc: Global,
-    clock: &C,
-    conversion: &Conversion<'_>,
-    files: &mut F,
-    streams: &mut Streams<R, W, E>,
-) -> u8
-    ensures status { result ≤ 3 }
-    ensures end { ConvertEnds (F.holds files.old) (F.holds files.new)
-        (F.lacks_folder files.old) (R.remaining streams.old.input)
-        (Appends (W.contents streams.old.output) (W.contents streams.new.output))
-        (asked_view conversion.now) result }
-{
-    let leave = files.leave();
-    convert_with_leave(alloc, clock, conversion, files, &leave, streams)
 }

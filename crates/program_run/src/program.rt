@@ -23,7 +23,7 @@ use program_commands::sending::send_input;
 use program_commands::streams::Streams;
 use program_desks::files_left::FilesLeft;
 use program_desks::kept_desks::KeepsDesks;
-use program_files::{MakesFiles, NamedFiles};
+use program_files::NamedFiles;
 use program_rules::rules::{RulesFault, open_table, status_of};
 use program_rules::{checking, terms_checking};
 use program_words::hints::{BATCH_TO_SOCKET, FILE_BEFORE};
@@ -136,7 +136,7 @@ fn run_action<
     T: Clock,
     O: OpenDesks,
     N: Entrances,
-    F: MakesFiles,
+    F: NamedFiles,
     R: Read,
     W: Write,
     E: Write,
@@ -250,7 +250,7 @@ fn run_words<
     T: Clock,
     O: OpenDesks,
     N: Entrances,
-    F: MakesFiles,
+    F: NamedFiles,
     R: Read,
     W: Write,
     E: Write,
@@ -304,7 +304,7 @@ pub fn run<
     T: Clock,
     O: OpenDesks,
     N: Entrances,
-    F: MakesFiles,
+    F: NamedFiles,
     R: Read,
     W: Write,
     E: Write,

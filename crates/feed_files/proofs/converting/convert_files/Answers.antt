@@ -6,7 +6,7 @@ use Rattle.std.proofs.Math.Numerals.{add-one}
 use Rattle.std.proofs.KnownBytes.{Appends-nil, Appends-trans}
 use Rattle.std.proofs.lemmas.List.{length-map}
 use Rattle.feed_files.specs.Ends.{file_end}
-use Rattle.feed_files.specs.Runs.{run_asking, status_of_all}
+use Rattle.feed_files.specs.Runs.{AreEnds, run_asking, status_of_all}
 use Rattle.feed_files.proofs.RunLemmas.{Continues, all_ended, continues_more, names_from, outputs_more, status_more}
 use Rattle.feed_files.proofs.converting.convert_files.Goals as goal
 
@@ -16,7 +16,7 @@ nameless = record { ref_ptr = (0, 0); now = [] }
 pub loop-file-init : goal.loop-file-init
 loop-file-init g c = record {
   ends = [];
-  so_far = λ more after are. are;
+  so_far = λ more after are. subst (λ held. AreEnds (run_asking c.args.run.now) (g.R.Read.remaining c.args.input.now) held after (map (λ (f : Bor (List ℕ)). f.now) c.args.names.now) more) c.leave-leave.ensures are;
   written = Appends-nil (g.W.Write.contents c.args.output.now);
   status_is = refl;
   most = omega arith;

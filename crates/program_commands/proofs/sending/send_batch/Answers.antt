@@ -1,9 +1,8 @@
-use Rattle.std.proofs.Common.{◌∙◌, None, [], ap, inl, inr, length, refl}
-use Rattle.std.proofs.KnownBytes.{Appends-nil, Consumes-nil}
-use Rattle.std.specs.Io.KnownBytes.{Appends}
+use Rattle.std.proofs.Common.{◌∙◌, Some, [], ap, inl, inr, length, refl}
+use Rattle.std.proofs.KnownBytes.{Appends-nil}
 use Rattle.std.specs.Prelude.{⊤}
 use Rattle.program_clients.specs.declared.fault.CausedFault.{CausedFault}
-use Rattle.program_commands.proofs.SendingLemmas.{sent_whole, wrote_came}
+use Rattle.program_commands.proofs.SendingLemmas.{sent_whole}
 use Rattle.program_commands.proofs.sending.send_batch.Goals as goal
 
 pub returns-in-Err : goal.returns-in-Err
@@ -11,8 +10,7 @@ returns-in-Err g c = inr (refl, Appends-nil (g.W.Write.contents c.args.output.no
 
 pub returns : goal.returns
 returns g c =
-    let held = g.W.Write.contents c.args.output.now in
-    inl (None, c.in-Err-send.ensures.err, wrote_came None None (Appends held held) [] (Consumes-nil None) (Appends-nil held))
+    inl (Some [], c.in-Err-send.ensures.err, [], [], refl, Appends-nil (g.W.Write.contents c.args.output.now))
 
 pub returns-in-Ok-take_answers : goal.returns-in-Ok-take_answers
 returns-in-Ok-take_answers g c =

@@ -63,19 +63,6 @@ def lost_answer(room: Room) -> Iterator[Outcome]:
     yield Outcome("its file has no other numbers", sorted(inbox.series.had), [1, 2, 3, 4])
 
 
-def unanswered(room: Room) -> Iterator[Outcome]:
-    """A message whose answer was lost keeps its text below the first number of a desk."""
-    inbox = inbox_in(room, "unanswered")
-    inbox.send("a.xml", feed_of(1, {"R1": "1.00"}))
-    with contextlib.suppress(Killed):
-        inbox.run(FakeMachine(inbox.disk, inbox.desk, inbox.clock, ("kill", "answered", 3)))
-    inbox.terms = b"50"
-    for first, wanted in (2, "refused"), (2, "refused"), (1, "applied"):
-        inbox.series.first = first
-        inbox.run()
-        yield Outcome(f"the first number is {first}", inbox.states()["a.xml"], wanted)
-
-
 def clock_ahead(room: Room) -> Iterator[Outcome]:
     """A file that came while the clock was ahead is taken once the clock is right."""
     inbox = inbox_in(room, "ahead", number=NEXT)

@@ -13,7 +13,7 @@ from onixdesk_shop.faults import BadEnd, Fault
 from onixdesk_shop.feeds import Refusal, Said, check, convert
 from onixdesk_shop.inbox import full, quarantine
 from onixdesk_shop.inbox.context import Inbox
-from onixdesk_shop.inbox.ledger import STANDING, TAKEN, File, Message, Row, State
+from onixdesk_shop.inbox.ledger import STANDING, File, Message, Row, State
 from onixdesk_shop.inbox.posting import REASONS, begin_again, give_back, judge_anew, offset_for, why_refused
 from onixdesk_shop.inbox.quarantine import Quarantine
 from onixdesk_shop.lines import ERROR, NOTICE, WARNING, cut, ranges
@@ -219,11 +219,13 @@ def retry_refused(inbox: Inbox, gaps: Gaps) -> None:
     """Judges refused files anew once what they were judged by changed, or the desk may take their numbers now."""
     ledger = inbox.ledger
     judge_anew(inbox, "state = 'refused' AND basis <> ?", inbox.basis(gaps.first))
+    beginnings = "refused,other-contents", "refused,waived", "refused,before-first", "held", "applied"
+    answers = " OR ".join(f"answer LIKE '{beginning},%'" for beginning in beginnings)
     files = "file IN (SELECT id FROM file WHERE state = 'refused' AND why <> ?)"
-    rows = ledger.messages(f"state = 'refused' AND text IS NOT NULL AND {files}", REASONS["unknown-series"])
-    below, others = ("refused,before-first", "unanswered,"), ("refused,other-contents", "refused,waived", *TAKEN)
-    above = {row.file for row in rows if row.answer.startswith(below) and row.number >= gaps.first}
-    if lacking := above | {row.file for row in rows if row.answer.startswith(others) and gaps.lacks(row.number)}:
+    where = f"state = 'refused' AND text IS NOT NULL AND ({answers}) AND {files}"
+    rows = ledger.messages(where, REASONS["unknown-series"])
+    above = {row.file for row in rows if row.answer.startswith("refused,before-first") and row.number >= gaps.first}
+    if lacking := above | {row.file for row in rows if gaps.lacks(row.number)}:
         with ledger.step():
             for file in map(ledger.file, lacking):
                 if ledger.is_final(file):

@@ -74,8 +74,8 @@ class Row(NamedTuple):
 
     @property
     def was_taken(self) -> bool:
-        """Whether the desk took its text, now or before, or may have it."""
-        return bool(self.has_text) and self.answer.startswith(TAKEN)
+        """Whether the desk took its text, now or before."""
+        return bool(self.has_text) and self.answer.startswith(("held,", "applied,"))
 
 
 @dataclass(frozen=True)
@@ -93,9 +93,6 @@ class Message:
 
 
 STANDING = State.READY, State.POSTED, State.HELD, State.APPLIED
-
-# How the answers begin with which a text is final: the last stands below the first number, where nothing is posted again.
-TAKEN = "held,", "applied,", "unanswered,"
 
 ROW = "SELECT number, file, digest, deletions, state, answer, text IS NOT NULL FROM message"
 
@@ -204,8 +201,8 @@ class Ledger:
         """The time of the latest file of which the desk has, may have or had something, at a number that we gave."""
         query = "SELECT max(time) FROM file JOIN message ON message.file = file.id WHERE ending <> '.csv'"
         stands = "message.state IN ('ready', 'posted', 'held', 'applied')"
-        is_kept = "message.state = 'refused' AND substr(answer, 1, instr(answer, ',')) IN (?, ?, ?)"
-        found: int | None = self.value(f"{query} AND ({stands} OR {is_kept})", *TAKEN)
+        is_kept = "message.state = 'refused' AND (answer LIKE 'held,%' OR answer LIKE 'applied,%')"
+        found: int | None = self.value(f"{query} AND ({stands} OR {is_kept})")
         return found
 
     def count_waiting(self, gaps: Gaps | None) -> int:
@@ -357,7 +354,9 @@ class Ledger:
     def stands(self, number: int, states: tuple[State, ...] = STANDING) -> bool:
         """Whether a file that nobody refused has that number, in one of these states."""
         row = self.row(number)
-        return row is not None and row.state in states and self.file(row.file).state != State.REJECTED
+        if row is None or row.state not in states:
+            return False
+        return self.file(row.file).state != State.REJECTED
 
     def waived(self, decision: Decision = Decision.WAIVE) -> list[int]:
         """The numbers whose last decision is this one: that they are waived, or no longer."""

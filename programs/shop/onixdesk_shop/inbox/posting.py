@@ -1,5 +1,6 @@
 """Posts to the desk: only the ledger's text, in order of number."""
 
+import itertools
 import re
 import shlex
 
@@ -43,7 +44,7 @@ def post_all(inbox: Inbox, gaps: Gaps) -> Gaps:
     for _ in range(ROUNDS):
         rows = inbox.ledger.to_post(gaps)
         if gone := [row.number for row in rows if not row.has_text]:
-            last = min(number for number in gone if number + 1 not in gone)
+            last = next(number for number in itertools.count(gone[0]) if number + 1 not in gone)
             command = f"onixdesk-inbox waive {inbox.series} {gone[0]}-{last} (or restore a later copy)"
             raise TextsGone(f"{command}; the desk lacks {ranges(gone)}, whose texts are not kept any more")
         if not rows:
@@ -104,11 +105,9 @@ def settle_file(inbox: Inbox, file: File) -> None:
 
 def settle_refused(inbox: Inbox, row: Row, answer: Refused, gaps: Gaps) -> None:
     ledger, file, why = inbox.ledger, inbox.ledger.file(row.file), why_refused(answer)
-    # What the desk took, or may have taken, is posted again as it is once the desk lacks it, or may take that number.
+    # A message that the desk took before keeps that answer: once the desk lacks it, it is posted again as it is.
     is_kept = row.was_taken and answer.reason in ("waived", "other-contents", "unknown-series")
-    is_unanswered = row.state == State.POSTED and answer.reason == "before-first"
-    said = "unanswered,before-first" if is_unanswered else "" if is_kept else answer.said
-    ledger.set_message(row.number, State.REFUSED, said)
+    ledger.set_message(row.number, State.REFUSED, "" if is_kept else answer.said)
     is_next = inbox.settings.gives_number(file.ending)
     if is_next and answer.reason != "unknown-series" and not ledger.has_stood(file, (State.HELD, State.APPLIED)):
         for each in ledger.messages_of(file):

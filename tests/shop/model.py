@@ -255,7 +255,8 @@ class Model(RuleBasedStateMachine):
         """The agreement is another one, until it is corrected."""
         series, parties = self.inbox.series, self.inbox.series.parties
         series.parties = (*parties[:2], "06", "5012345678900") if is_other else parties
-        series.first = 1 if self.is_next else first
+        # No desk has a message below its first number.
+        series.first = 1 if self.is_next else min([first, *series.had])
         self.run()
         series.parties, series.first = parties, 1
 

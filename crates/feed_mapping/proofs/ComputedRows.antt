@@ -291,9 +291,9 @@ said-range kind quantity percent d e =
 discount-range : (c : Composite) (d : Discount) → discount_in c ≡ Some d → IsOfRange d.quantity
 discount-range c d e =
     let (_, is) = cond-then _ _ d e in
-    said-range (text_at "DiscountType" c) (text_at "Quantity" c) (text_at "DiscountPercent" c) d is
+    said-range (text_at "DiscountType" c.below) (text_at "Quantity" c.below) (text_at "DiscountPercent" c.below) d is
 
-discounts-range : (cs : List PriceTexts) → AllByRecursion (λ (d : Discount). IsOfRange d.quantity) (flat_map (λ c. option_to_list (discount_in c)) cs)
+discounts-range : (cs : List Composite) → AllByRecursion (λ (d : Discount). IsOfRange d.quantity) (flat_map (λ c. option_to_list (discount_in c)) cs)
 discounts-range [] = tt
 discounts-range (c ∷ cs) = go (discounts-range cs) (discount_in c) refl
   where

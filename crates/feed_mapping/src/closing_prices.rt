@@ -1,13 +1,13 @@
 //! Which Prices of a SupplyDetail close others: those that would be written but for their dates.
 
-ghost use Rattle.std.specs.Prelude.{◌≡◌, IfOk, map};
+ghost use Rattle.std.specs.Prelude.{◌≡◌, ◌++◌, IfOk, OnOk, map};
+ghost use Rattle.std.specs.Option.{option_to_list};
 ghost use Rattle.feed_mapping.specs.PriceTexts.{price_view};
 ghost use Rattle.feed_mapping.specs.Prices.{closing_kind, closing_kinds, context_view};
 
 use crate::price_kinds::kind_in;
 use crate::price_texts::PriceTexts;
 use crate::prices::{PriceContext, early_reason, free_reason, is_nothing, is_taken};
-use crate::records::push_some;
 use csv_records::fields::FieldBuffer;
 use feed_terms::price::Kind;
 use onix_terms::items::Items;
@@ -36,6 +36,31 @@ fn closing_kind(
     }
 }
 
+// Adds the type and currency of a Price that would be written but for its PriceDates.
+fn add_closing_kind(
+    alloc: Global,
+    context: &PriceContext<'_, '_, '_>,
+    price: &PriceTexts<'_>,
+    fields: &mut FieldBuffer,
+    kinds: &mut Items<Kind>,
+) -> Result<(), AllocError>
+    ensures { OnOk result (kinds.new ≡ kinds.old
+        ++ option_to_list (closing_kind (context_view context.now) (price_view price.now))) }
+{
+    match closing_kind(alloc, context, price, fields)? {
+        Some(
+            Kind {
+                price_type,
+                currency,
+            },
+        ) => kinds.push(Kind {
+            price_type,
+            currency,
+        }),
+        None => Ok(()),
+    }
+}
+
 /// The types and currencies of those Prices of a SupplyDetail that would be written but for their
 /// PriceDates. The list takes fields.
 pub(crate) fn closing_kinds(
@@ -50,7 +75,7 @@ pub(crate) fn closing_kinds(
     let mut kinds = Items::new(alloc);
     let mut rest = prices;
     while let [price, behind @ ..] = rest {
-        push_some(&mut kinds, closing_kind(alloc, context, price, fields)?)?;
+        add_closing_kind(alloc, context, price, fields, &mut kinds)?;
         rest = behind;
     }
     Ok(kinds)

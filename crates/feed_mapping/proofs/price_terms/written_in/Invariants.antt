@@ -6,8 +6,8 @@ use Rattle.feed_mapping.specs.Prices.{context_view, price_outcome}
 use Rattle.feed_mapping.specs.PriceTerms.{all_given, closed_kinds}
 use Rattle.feed_mapping.proofs.price_terms.written_in.Given as goal
 
-abbrev pub invariant-loop-price : goal.invariant-loop-price
-invariant-loop-price l =
+abbrev pub invariant-loop-rest : goal.invariant-loop-rest
+invariant-loop-rest l =
     let context = context_view l.context in record {
       records : l.written.records ++ all_records (price_outcome context) (map price_view l.rest) ≡ all_records (price_outcome context) (map price_view l.prices);
       given : l.written.given.items ++ all_given context (map price_view l.rest) ≡ all_given context (map price_view l.prices);
@@ -15,5 +15,5 @@ invariant-loop-price l =
       notes : note_views l.notes.items ++ all_notes (price_outcome context) (map price_view l.rest) ≡ note_views l.initial.notes.items ++ all_notes (price_outcome context) (map price_view l.prices);
     }
 
-abbrev pub decreases-loop-price : goal.decreases-loop-price
-decreases-loop-price l = length l.rest
+abbrev pub decreases-loop-rest : goal.decreases-loop-rest
+decreases-loop-rest l = length l.rest

@@ -9,7 +9,8 @@ use Rattle.feed_outline.specs.Nodes.{Nodes, no_nodes, node}
 use Rattle.onix_records.specs.declared.row.Opening.{Opening}
 use Rattle.feed_terms.specs.Laws.{NothingByNoTerms}
 use Rattle.feed_terms.specs.declared.term.Term.{Term}
-use Rattle.feed_mapping.specs.Details.{context_in, detail_fields, detail_outcome, detail_reason, price_in, prices_in, supplier_id}
+use Rattle.feed_mapping.specs.PriceTexts.{prices_in}
+use Rattle.feed_mapping.specs.Details.{context_in, detail_fields, detail_outcome, detail_reason, price_in, supplier_id}
 use Rattle.feed_mapping.specs.Elements.{Composite, composite, each_at, first}
 use Rattle.feed_mapping.specs.Header.{Heading, heading_in}
 use Rattle.feed_mapping.specs.Notes.{Reason, foreign, wrong}

@@ -42,38 +42,39 @@ use Rattle.feed_mapping.specs.Elements.{Composite, each_at, text_at}
 use Rattle.feed_mapping.specs.Notes.{Reason, foreign}
 use Rattle.feed_mapping.specs.declared.notes.Foreign.TheVariants.{LongTerritory}
 use Rattle.feed_mapping.specs.Outcomes.{Outcome, all_records, nothing, outcome_records}
+use Rattle.feed_mapping.specs.PriceTexts.{PriceTexts}
 use Rattle.feed_mapping.specs.Prices.{PriceContext, closed_reason, date_reason, early_reasons, free_reason, is_nothing, last_reason, long_reason, minimum_written, narrowed, outcome_of, price_outcome, price_reasons, record_reason, right_days, territory_written, written_fields}
-use Rattle.feed_mapping.specs.PriceTerms.{all_given, discount_in, given_by, given_of, outcome_in}
+use Rattle.feed_mapping.specs.PriceTerms.{all_given, discount_in, given_by, given_of}
 use Rattle.feed_mapping.specs.Records.{first_some, parsed}
-use Rattle.feed_mapping.specs.Territories.{area_fields, area_in}
+use Rattle.feed_mapping.specs.Territories.{area_fields}
 use Rattle.feed_mapping.proofs.PriceRows.{Reads, as-rows, cond-then, both, last-none, no-rows, one-first, or-none, price-row, said-read, taken}
 use Rattle.feed_mapping.proofs.Utf8Laws.{ascii-field, named-utf8}
 
 -- ---- what the terms see of a Price
 
 -- nothing, where it is not written; else it, by the fields of its record
-abbrev pub IsSeen : PriceContext → Nodes → Outcome → Type 0
-IsSeen context nodes outcome =
-    ((outcome_records outcome ≡ []) × (given_by outcome (parsed (price_of context.opening) (written_fields context nodes)) (codes "Price" ∷ written_fields context nodes) nodes ≡ []))
-    ⊎ ((p : Price) × (outcome_records outcome ≡ (codes "Price" ∷ written_fields context nodes) ∷ [])
-    × (given_by outcome (parsed (price_of context.opening) (written_fields context nodes)) (codes "Price" ∷ written_fields context nodes) nodes ≡ given_of p (codes "Price" ∷ written_fields context nodes) nodes ∷ [])
-    × (parsed (price_of context.opening) (written_fields context nodes) ≡ Some p))
+abbrev pub IsSeen : PriceContext → PriceTexts → Outcome → Type 0
+IsSeen context price outcome =
+    ((outcome_records outcome ≡ []) × (given_by outcome (parsed (price_of context.opening) (written_fields context price)) (codes "Price" ∷ written_fields context price) price.below ≡ []))
+    ⊎ ((p : Price) × (outcome_records outcome ≡ (codes "Price" ∷ written_fields context price) ∷ [])
+    × (given_by outcome (parsed (price_of context.opening) (written_fields context price)) (codes "Price" ∷ written_fields context price) price.below ≡ given_of p (codes "Price" ∷ written_fields context price) price.below ∷ [])
+    × (parsed (price_of context.opening) (written_fields context price) ≡ Some p))
 
-reason-seen : (context : PriceContext) (nodes : Nodes) (kind : Option Reason) → first_some (price_reasons context nodes) ≡ kind → IsSeen context nodes (outcome_of kind context nodes)
-reason-seen context nodes (Some kind) e = inl (refl, refl)
-reason-seen context nodes None e =
-    let last : last_reason context nodes ≡ None = last-none (early_reasons (date_reason nodes) (free_reason nodes) nodes) (last_reason context nodes) e in
-    let beside : option_or (closed_reason context nodes) (long_reason context nodes) ≡ None = or-none (record_reason context nodes) (option_or (closed_reason context nodes) (long_reason context nodes)) last in
-    let none : long_reason context nodes ≡ None = or-none (closed_reason context nodes) (long_reason context nodes) beside in
-    let (p, read) = taken (parsed (price_of context.opening) (written_fields context nodes)) (foreign LongTerritory []) none in
-    inr (p, refl, ap (λ (q : Option Price). given_by (outcome_of None context nodes) q (codes "Price" ∷ written_fields context nodes) nodes) read, read)
+reason-seen : (context : PriceContext) (price : PriceTexts) (kind : Option Reason) → first_some (price_reasons context price) ≡ kind → IsSeen context price (outcome_of kind context price)
+reason-seen context price (Some kind) e = inl (refl, refl)
+reason-seen context price None e =
+    let last : last_reason context price ≡ None = last-none (early_reasons (date_reason price) (free_reason price) price) (last_reason context price) e in
+    let beside : option_or (closed_reason context price) (long_reason context price) ≡ None = or-none (record_reason context price) (option_or (closed_reason context price) (long_reason context price)) last in
+    let none : long_reason context price ≡ None = or-none (closed_reason context price) (long_reason context price) beside in
+    let (p, read) = taken (parsed (price_of context.opening) (written_fields context price)) (foreign LongTerritory []) none in
+    inr (p, refl, ap (λ (q : Option Price). given_by (outcome_of None context price) q (codes "Price" ∷ written_fields context price) price.below) read, read)
 
-pub seen : (context : PriceContext) (nodes : Nodes) → IsSeen context nodes (price_outcome context nodes)
-seen context nodes = go (is_nothing context nodes)
+pub seen : (context : PriceContext) (price : PriceTexts) → IsSeen context price (price_outcome context price)
+seen context price = go (is_nothing context price)
   where
-    go : (bare : Bool) → IsSeen context nodes (if bare then nothing else outcome_of (first_some (price_reasons context nodes)) context nodes)
+    go : (bare : Bool) → IsSeen context price (if bare then nothing else outcome_of (first_some (price_reasons context price)) context price)
     go true = inl (refl, refl)
-    go false = reason-seen context nodes (first_some (price_reasons context nodes)) refl
+    go false = reason-seen context price (first_some (price_reasons context price)) refl
 
 -- ---- records and what the terms see fit each other
 
@@ -96,21 +97,21 @@ area-three None fields e = e
 area-three (Some excluded) fields e = refl
 
 -- the record of a Price has the nine fields that each has
-pub long-written : (context : PriceContext) (nodes : Nodes) → 9 ≤ length (codes "Price" ∷ written_fields context nodes)
-long-written context nodes =
-    let t = territory_written context nodes in
-    let behind : List (List ℕ) = day_field (right_days nodes).first ∷ day_field (right_days nodes).last ∷ [] in
-    let three : length t ≡ 3 = area-three (narrowed context nodes) (area_fields (area_in nodes)) refl in
-    omega (arith, three, length-append t behind, length-append (t ++ behind) (option_to_list (minimum_written context nodes)))
+pub long-written : (context : PriceContext) (price : PriceTexts) → 9 ≤ length (codes "Price" ∷ written_fields context price)
+long-written context price =
+    let t = territory_written context price in
+    let behind : List (List ℕ) = day_field (right_days price).first ∷ day_field (right_days price).last ∷ [] in
+    let three : length t ≡ 3 = area-three (narrowed context price) (area_fields price.area) refl in
+    omega (arith, three, length-append t behind, length-append (t ++ behind) (option_to_list (minimum_written context price)))
 
-one-fits : (context : PriceContext) (nodes : Nodes) (outcome : Outcome) → IsSeen context nodes outcome
-    → Fit (outcome_records outcome) (given_by outcome (parsed (price_of context.opening) (written_fields context nodes)) (codes "Price" ∷ written_fields context nodes) nodes)
-one-fits context nodes outcome (inl (bare, none)) = rw (bare, none) (refl, tt)
-one-fits context nodes outcome (inr (p, one, given, read)) = rw (one, given) (refl, (long-written context nodes, tt))
+one-fits : (context : PriceContext) (price : PriceTexts) (outcome : Outcome) → IsSeen context price outcome
+    → Fit (outcome_records outcome) (given_by outcome (parsed (price_of context.opening) (written_fields context price)) (codes "Price" ∷ written_fields context price) price.below)
+one-fits context price outcome (inl (bare, none)) = rw (bare, none) (refl, tt)
+one-fits context price outcome (inr (p, one, given, read)) = rw (one, given) (refl, (long-written context price, tt))
 
-pub all-fit : (context : PriceContext) (cs : List Composite) → Fit (all_records (outcome_in context) cs) (all_given context cs)
+pub all-fit : (context : PriceContext) (cs : List PriceTexts) → Fit (all_records (price_outcome context) cs) (all_given context cs)
 all-fit context [] = (refl, tt)
-all-fit context (c ∷ cs) = fit-more _ _ _ _ (one-fits context c.below (price_outcome context c.below) (seen context c.below)) (all-fit context cs)
+all-fit context (c ∷ cs) = fit-more _ _ _ _ (one-fits context c (price_outcome context c) (seen context c)) (all-fit context cs)
 
 pub long-at : (records : List (List (List ℕ))) (k : ℕ) → AllByRecursion IsLong records → k < length records → IfSome (slice_get records k) IsLong
 long-at [] k all l = tt
@@ -308,37 +309,37 @@ given-range o fields whole p nodes e =
 -- ---- of all Prices
 
 module _ (context : PriceContext) where
-  plain-one : (nodes : Nodes) (outcome : Outcome) → IsSeen context nodes outcome → (records : List (List (List ℕ))) (given : List GivenPrice) → Reads context.opening records (map row.Price (map (λ g. g.price) given))
-      → Reads context.opening (outcome_records outcome ++ records) (map row.Price (map (λ g. g.price) (given_by outcome (parsed (price_of context.opening) (written_fields context nodes)) (codes "Price" ∷ written_fields context nodes) nodes ++ given)))
-  plain-one nodes outcome (inl (bare, none)) records given rest = rw (bare, none) rest
-  plain-one nodes outcome (inr (p, one, own, read)) records given rest =
-      rw (one, own) (price-first context.opening (written_fields context nodes) p records (map (λ g. g.price) given) read rest)
+  plain-one : (price : PriceTexts) (outcome : Outcome) → IsSeen context price outcome → (records : List (List (List ℕ))) (given : List GivenPrice) → Reads context.opening records (map row.Price (map (λ g. g.price) given))
+      → Reads context.opening (outcome_records outcome ++ records) (map row.Price (map (λ g. g.price) (given_by outcome (parsed (price_of context.opening) (written_fields context price)) (codes "Price" ∷ written_fields context price) price.below ++ given)))
+  plain-one price outcome (inl (bare, none)) records given rest = rw (bare, none) rest
+  plain-one price outcome (inr (p, one, own, read)) records given rest =
+      rw (one, own) (price-first context.opening (written_fields context price) p records (map (λ g. g.price) given) read rest)
 
   -- the records of Prices say what the terms see
-  pub all-plain : (cs : List Composite) → Reads context.opening (all_records (outcome_in context) cs) (map row.Price (map (λ g. g.price) (all_given context cs)))
+  pub all-plain : (cs : List PriceTexts) → Reads context.opening (all_records (price_outcome context) cs) (map row.Price (map (λ g. g.price) (all_given context cs)))
   all-plain [] = no-rows context.opening
-  all-plain (c ∷ cs) = plain-one c.below (price_outcome context c.below) (seen context c.below) (all_records (outcome_in context) cs) (all_given context cs) (all-plain cs)
+  all-plain (c ∷ cs) = plain-one c (price_outcome context c) (seen context c) (all_records (price_outcome context) cs) (all_given context cs) (all-plain cs)
 
 module _ (laws : TermLaws) (context : PriceContext) (two : context.opening.form ≡ form.Two) (terms : List Term) (coded : HasCodes terms) (supplier : Option (List ℕ)) (held : GivenPrice → ComputedPrice → Bool) where
   -- one Price, before what is behind it
-  one-with : (nodes : Nodes) (outcome : Outcome) → IsSeen context nodes outcome → (records : List (List (List ℕ))) (given : List GivenPrice)
+  one-with : (price : PriceTexts) (outcome : Outcome) → IsSeen context price outcome → (records : List (List (List ℕ))) (given : List GivenPrice)
       → Reads context.opening (with_all terms supplier held records given) (map row.Price (prices_with terms supplier held given))
-      → Reads context.opening (with_all terms supplier held (outcome_records outcome ++ records) (given_by outcome (parsed (price_of context.opening) (written_fields context nodes)) (codes "Price" ∷ written_fields context nodes) nodes ++ given))
-      (map row.Price (prices_with terms supplier held (given_by outcome (parsed (price_of context.opening) (written_fields context nodes)) (codes "Price" ∷ written_fields context nodes) nodes ++ given)))
-  one-with nodes outcome (inl (bare, none)) records given rest = rw (bare, none) rest
-  one-with nodes outcome (inr (p, one, own, read)) records given rest =
+      → Reads context.opening (with_all terms supplier held (outcome_records outcome ++ records) (given_by outcome (parsed (price_of context.opening) (written_fields context price)) (codes "Price" ∷ written_fields context price) price.below ++ given))
+      (map row.Price (prices_with terms supplier held (given_by outcome (parsed (price_of context.opening) (written_fields context price)) (codes "Price" ∷ written_fields context price) price.below ++ given)))
+  one-with price outcome (inl (bare, none)) records given rest = rw (bare, none) rest
+  one-with price outcome (inr (p, one, own, read)) records given rest =
       let o = context.opening in
-      let fields = written_fields context nodes in
-      let g = given_of p (codes "Price" ∷ fields) nodes in
+      let fields = written_fields context price in
+      let g = given_of p (codes "Price" ∷ fields) price.below in
       let s = said-read (price_of o) fields p read in
       let cs = written_of terms supplier held g in
-      let behind = computed-rows laws o two fields p read cs (laws.writable terms supplier held g coded (given-range o fields (codes "Price" ∷ fields) p nodes s.is)) in
+      let behind = computed-rows laws o two fields p read cs (laws.writable terms supplier held g coded (given-range o fields (codes "Price" ∷ fields) p price.below s.is)) in
       rw (one, own)
       (joined o (with_computed terms supplier held (codes "Price" ∷ fields) g) (with_all terms supplier held records given) (p ∷ map (price_of_computed p) cs) (prices_with terms supplier held given)
       (price-first o fields p (map (computed_record (codes "Price" ∷ fields)) cs) (map (price_of_computed p) cs) read behind) rest)
 
   -- the records with those that the terms compute say the prices with these
-  pub all-with : (cs : List Composite)
-      → Reads context.opening (with_all terms supplier held (all_records (outcome_in context) cs) (all_given context cs)) (map row.Price (prices_with terms supplier held (all_given context cs)))
+  pub all-with : (cs : List PriceTexts)
+      → Reads context.opening (with_all terms supplier held (all_records (price_outcome context) cs) (all_given context cs)) (map row.Price (prices_with terms supplier held (all_given context cs)))
   all-with [] = no-rows context.opening
-  all-with (c ∷ cs) = one-with c.below (price_outcome context c.below) (seen context c.below) (all_records (outcome_in context) cs) (all_given context cs) (all-with cs)
+  all-with (c ∷ cs) = one-with c (price_outcome context c) (seen context c) (all_records (price_outcome context) cs) (all_given context cs) (all-with cs)

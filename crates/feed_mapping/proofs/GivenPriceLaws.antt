@@ -11,7 +11,8 @@ use Rattle.feed_terms.specs.HeldBack.{is_held_back}
 use Rattle.feed_terms.specs.Laws.{GivenPriceStands}
 use Rattle.feed_terms.specs.WithTerms.{prices_with}
 use Rattle.feed_terms.specs.declared.term.Term.{Term}
-use Rattle.feed_mapping.specs.Details.{context_in, prices_in, supplier_id}
+use Rattle.feed_mapping.specs.PriceTexts.{prices_in}
+use Rattle.feed_mapping.specs.Details.{context_in, supplier_id}
 use Rattle.feed_mapping.specs.PriceTerms.{all_given, closed_kinds, supplier_of}
 use Rattle.feed_mapping.specs.Rows.{MayCompute}
 use Rattle.feed_mapping.specs.TermsLaws.{GivenStands}

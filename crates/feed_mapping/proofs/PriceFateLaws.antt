@@ -4,7 +4,8 @@ use Rattle.std.specs.Prelude.{codes, if◌then◌else◌, is_some}
 use Rattle.std.specs.List.{AllByRecursion}
 use Rattle.feed_outline.specs.Nodes.{Nodes}
 use Rattle.onix_records.specs.declared.row.Opening.{Opening}
-use Rattle.feed_mapping.specs.Details.{context_in, detail_fields, detail_outcome, detail_reason, prices_in}
+use Rattle.feed_mapping.specs.PriceTexts.{PriceTexts, prices_in}
+use Rattle.feed_mapping.specs.Details.{context_in, detail_fields, detail_outcome, detail_reason}
 use Rattle.feed_mapping.specs.Elements.{Composite, each_at, first}
 use Rattle.feed_mapping.specs.Notes.{Reason}
 use Rattle.feed_mapping.specs.Outcomes.{all_records, notes_below, nothing, outcome_reason, outcome_records}
@@ -17,20 +18,20 @@ use Rattle.feed_mapping.specs.declared.product_records.Fate.TheVariants as fate
 use Rattle.feed_mapping.specs.SupplyChoices.{SupplyChoices}
 use Rattle.feed_mapping.specs.Supplies.{detail_in, details_in, supplies_reason, supply_markets, supply_outcome}
 
-reason-is : (context : PriceContext) (nodes : Nodes) (kind : Option Reason) → IsPrice context nodes (outcome_of kind context nodes)
-reason-is context nodes None = (written_fields context nodes, refl)
-reason-is context nodes (Some kind) = tt
+reason-is : (context : PriceContext) (price : PriceTexts) (kind : Option Reason) → IsPrice context price (outcome_of kind context price)
+reason-is context price None = (written_fields context price, refl)
+reason-is context price (Some kind) = tt
 
-price-is : (context : PriceContext) (nodes : Nodes) → IsPrice context nodes (price_outcome context nodes)
-price-is context nodes = go (is_nothing context nodes) refl
+price-is : (context : PriceContext) (price : PriceTexts) → IsPrice context price (price_outcome context price)
+price-is context price = go (is_nothing context price) refl
   where
-    go : (n : Bool) → is_nothing context nodes ≡ n → IsPrice context nodes (if n then nothing else outcome_of (first_some (price_reasons context nodes)) context nodes)
+    go : (n : Bool) → is_nothing context price ≡ n → IsPrice context price (if n then nothing else outcome_of (first_some (price_reasons context price)) context price)
     go true e = e
-    go false e = reason-is context nodes (first_some (price_reasons context nodes))
+    go false e = reason-is context price (first_some (price_reasons context price))
 
-prices-are : (context : PriceContext) (cs : List Composite) → AllByRecursion (λ p. IsPrice context p.below (price_outcome context p.below)) cs
+prices-are : (context : PriceContext) (cs : List PriceTexts) → AllByRecursion (λ p. IsPrice context p (price_outcome context p)) cs
 prices-are context [] = tt
-prices-are context (c ∷ cs) = (price-is context c.below, prices-are context cs)
+prices-are context (c ∷ cs) = (price-is context c, prices-are context cs)
 
 pub detail-has : (o : Opening) (choices : SupplyChoices) (nodes : Nodes) → outcome_reason (detail_outcome o choices nodes) ≡ None → HasPrices o choices nodes
 detail-has o choices nodes e = go (detail_reason choices.preferred nodes) refl

@@ -1,8 +1,8 @@
 -- The first of some reasons.
-use Rattle.std.proofs.Common.{◌≡◌, List, [], ◌∷◌, ◌++◌, Option, Some, None, refl, ap, ◌∙◌}
+use Rattle.std.proofs.Common.{◌≡◌, List, [], ◌∷◌, ◌++◌, Option, Some, None, refl}
 use Rattle.std.specs.Option.{option_or}
-use Rattle.feed_outline.specs.Nodes.{Nodes}
 use Rattle.feed_mapping.specs.Notes.{Reason}
+use Rattle.feed_mapping.specs.PriceTexts.{PriceTexts}
 use Rattle.feed_mapping.specs.Prices.{PriceContext, date_reason, early_reasons, free_reason, last_reason, price_reasons}
 use Rattle.feed_mapping.specs.Records.{first_some}
 
@@ -28,14 +28,11 @@ earlier_counts [] ys x e = absurd (differ e)
 earlier_counts (None ∷ xs) ys x e = earlier_counts xs ys x e
 earlier_counts (Some y ∷ xs) ys x e = cc
 
-module _ (context : PriceContext) (nodes : Nodes) (dated free : Option Reason) (d : dated ≡ date_reason nodes) (f : free ≡ free_reason nodes) where
-  same : first_some (early_reasons dated free nodes) ≡ first_some (early_reasons (date_reason nodes) (free_reason nodes) nodes)
-  same = ap (λ x. first_some (early_reasons x free nodes)) d ∙ ap (λ y. first_some (early_reasons (date_reason nodes) y nodes)) f
-
+module _ (context : PriceContext) (price : PriceTexts) where
   -- what the desk and the Prices beside it say of a Price counts where no earlier reason holds
-  pub known : None ≡ first_some (early_reasons dated free nodes) → first_some (price_reasons context nodes) ≡ last_reason context nodes
-  known e = last_counts (early_reasons (date_reason nodes) (free_reason nodes) nodes) (last_reason context nodes) (e ∙ same)
+  pub known : None ≡ first_some (early_reasons (date_reason price) (free_reason price) price) → first_some (price_reasons context price) ≡ last_reason context price
+  known e = last_counts (early_reasons (date_reason price) (free_reason price) price) (last_reason context price) e
 
   -- a Price is left out for an earlier reason, whatever they say of it
-  pub early : (kind : Reason) → Some kind ≡ first_some (early_reasons dated free nodes) → first_some (price_reasons context nodes) ≡ Some kind
-  early kind e = earlier_counts (early_reasons (date_reason nodes) (free_reason nodes) nodes) (last_reason context nodes ∷ []) kind (e ∙ same)
+  pub early : (kind : Reason) → Some kind ≡ first_some (early_reasons (date_reason price) (free_reason price) price) → first_some (price_reasons context price) ≡ Some kind
+  early kind e = earlier_counts (early_reasons (date_reason price) (free_reason price) price) (last_reason context price ∷ []) kind e

@@ -6,7 +6,6 @@ use Rattle.std.specs.Option.{option_or}
 use Rattle.std.specs.Str.{is_utf8}
 use Rattle.std.proofs.lemmas.List.{map-append}
 use Rattle.std.proofs.lemmas.Option.{same_Some}
-use Rattle.feed_outline.specs.Nodes.{Nodes}
 use Rattle.onix_records.specs.Detail.{detail_of}
 use Rattle.onix_records.specs.Fields.{is_clean}
 use Rattle.onix_records.specs.Price.{price_of}
@@ -20,11 +19,10 @@ use Rattle.onix_records.specs.declared.parts.SupplyDetail.{SupplyDetail}
 use Rattle.onix_records.specs.declared.row.Opening.{Opening}
 use Rattle.onix_records.specs.declared.row.Row.{Row}
 use Rattle.onix_records.specs.declared.row.Row.TheVariants as row
-use Rattle.feed_mapping.specs.Details.{context_in, price_in}
-use Rattle.feed_mapping.specs.Elements.{Composite}
 use Rattle.feed_mapping.specs.Notes.{Reason, foreign}
 use Rattle.feed_mapping.specs.declared.notes.Foreign.TheVariants.{LongTerritory}
 use Rattle.feed_mapping.specs.Outcomes.{all_records, nothing, outcome_records}
+use Rattle.feed_mapping.specs.PriceTexts.{PriceTexts}
 use Rattle.feed_mapping.specs.Prices.{PriceContext, closed_reason, date_reason, early_reasons, free_reason, is_nothing, last_reason, long_reason, outcome_of, price_outcome, price_reasons, record_reason, written_fields}
 use Rattle.feed_mapping.specs.Records.{clean, first_some, parsed}
 use Rattle.feed_mapping.proofs.Utf8Laws.{are_utf8, named-utf8, utf8-first, utf8-joined}
@@ -130,33 +128,33 @@ taken None w e = cc e
 abbrev pub ArePrices : Opening → Records → Type 0
 ArePrices o records = (ps : List Price) × Reads o records (map row.Price ps)
 
-pub reason-rows : (context : PriceContext) (nodes : Nodes) (kind : Option Reason) → first_some (price_reasons context nodes) ≡ kind
-    → ArePrices context.opening (outcome_records (outcome_of kind context nodes))
-reason-rows context nodes (Some kind) e = ([], no-rows context.opening)
-reason-rows context nodes None e =
-    let last : last_reason context nodes ≡ None = last-none (early_reasons (date_reason nodes) (free_reason nodes) nodes) (last_reason context nodes) e in
-    let beside : option_or (closed_reason context nodes) (long_reason context nodes) ≡ None = or-none (record_reason context nodes) (option_or (closed_reason context nodes) (long_reason context nodes)) last in
-    let none : long_reason context nodes ≡ None = or-none (closed_reason context nodes) (long_reason context nodes) beside in
-    let (p, read) = taken (parsed (price_of context.opening) (written_fields context nodes)) (foreign LongTerritory []) none in
-    let s = said-read (price_of context.opening) (written_fields context nodes) p read in (
+pub reason-rows : (context : PriceContext) (price : PriceTexts) (kind : Option Reason) → first_some (price_reasons context price) ≡ kind
+    → ArePrices context.opening (outcome_records (outcome_of kind context price))
+reason-rows context price (Some kind) e = ([], no-rows context.opening)
+reason-rows context price None e =
+    let last : last_reason context price ≡ None = last-none (early_reasons (date_reason price) (free_reason price) price) (last_reason context price) e in
+    let beside : option_or (closed_reason context price) (long_reason context price) ≡ None = or-none (record_reason context price) (option_or (closed_reason context price) (long_reason context price)) last in
+    let none : long_reason context price ≡ None = or-none (closed_reason context price) (long_reason context price) beside in
+    let (p, read) = taken (parsed (price_of context.opening) (written_fields context price)) (foreign LongTerritory []) none in
+    let s = said-read (price_of context.opening) (written_fields context price) p read in (
       p ∷ [],
-      one-first context.opening (codes "Price" ∷ written_fields context nodes) (row.Price p) [] [] (price-row context.opening (written_fields context nodes) p s.clean s.is)
-          (named-utf8 (codes "Price") (written_fields context nodes) refl s.utf8) (no-rows context.opening),
+      one-first context.opening (codes "Price" ∷ written_fields context price) (row.Price p) [] [] (price-row context.opening (written_fields context price) p s.clean s.is)
+          (named-utf8 (codes "Price") (written_fields context price) refl s.utf8) (no-rows context.opening),
     )
 
-pub price-rows : (context : PriceContext) (nodes : Nodes) → ArePrices context.opening (outcome_records (price_outcome context nodes))
-price-rows context nodes = go (is_nothing context nodes)
+pub price-rows : (context : PriceContext) (price : PriceTexts) → ArePrices context.opening (outcome_records (price_outcome context price))
+price-rows context price = go (is_nothing context price)
   where
-    go : (bare : Bool) → ArePrices context.opening (outcome_records (if bare then nothing else outcome_of (first_some (price_reasons context nodes)) context nodes))
+    go : (bare : Bool) → ArePrices context.opening (outcome_records (if bare then nothing else outcome_of (first_some (price_reasons context price)) context price))
     go true = ([], no-rows context.opening)
-    go false = reason-rows context nodes (first_some (price_reasons context nodes)) refl
+    go false = reason-rows context price (first_some (price_reasons context price)) refl
 
-pub prices-rows : (o : Opening) (nodes : Nodes) (cs : List Composite) → ArePrices o (all_records (price_in o nodes) cs)
-prices-rows o nodes [] = ([], no-rows o)
-prices-rows o nodes (c ∷ cs) =
-    let (ps, e) = price-rows (context_in o nodes) c.below in
-    let (qs, f) = prices-rows o nodes cs in (
+pub prices-rows : (context : PriceContext) (prices : List PriceTexts) → ArePrices context.opening (all_records (price_outcome context) prices)
+prices-rows context [] = ([], no-rows context.opening)
+prices-rows context (c ∷ cs) =
+    let (ps, e) = price-rows context c in
+    let (qs, f) = prices-rows context cs in (
       ps ++ qs,
-      as-rows o _ (map row.Price ps ++ map row.Price qs) (map row.Price (ps ++ qs)) (sym (map-append row.Price ps qs))
-          (both o (outcome_records (price_in o nodes c)) (all_records (price_in o nodes) cs) (map row.Price ps) (map row.Price qs) e f),
+      as-rows context.opening _ (map row.Price ps ++ map row.Price qs) (map row.Price (ps ++ qs)) (sym (map-append row.Price ps qs))
+          (both context.opening (outcome_records (price_outcome context c)) (all_records (price_outcome context) cs) (map row.Price ps) (map row.Price qs) e f),
     )

@@ -32,7 +32,8 @@ use Rattle.onix_records.proofs.FrontRows.{bind-some}
 use Rattle.onix_terms.specs.Code.{code2_of}
 use Rattle.onix_terms.specs.Territory.{countries_text, territory_of, world_text}
 use Rattle.onix_terms.specs.declared.territory.Territory.{Territory}
-use Rattle.feed_mapping.specs.Details.{context_in, detail_fields, priced_records, supplier_id, detail_reasons, detail_reason, field_reason, old_supply, prices_in}
+use Rattle.feed_mapping.specs.PriceTexts.{prices_in}
+use Rattle.feed_mapping.specs.Details.{context_in, detail_fields, priced_records, supplier_id, detail_reasons, detail_reason, field_reason, old_supply}
 use Rattle.feed_mapping.specs.Elements.{Composite, each_at, first}
 use Rattle.feed_mapping.specs.Markets.{early_market_reasons, first_kept, kept_area, kept_fields, kept_outcome, market_reason, markets_outcome, supply_record, territories_of, union_fields}
 use Rattle.feed_mapping.proofs.MarketLaws.{joined_outcome}
@@ -75,7 +76,7 @@ priced-rows : TermLaws → (o : Opening) (choices : SupplyChoices) (nodes : Node
 priced-rows laws o choices nodes may = go choices.terms may
   where
     go : (terms : Option (List Term)) → MayCompute o terms → ArePrices o (priced_records o terms choices.preferred nodes)
-    go None may = prices-rows o nodes (prices_in nodes)
+    go None may = prices-rows (context_in o nodes) (prices_in nodes)
     go (Some terms) (two, coded) = (
       _,
       all-with laws (context_in o nodes) two terms coded (supplier_of (supplier_id choices.preferred nodes))

@@ -47,18 +47,17 @@ module _ (text : List ℕ) where
   abbrev pub written_amount : Option ℕ
   written_amount = option_or rounded_amount (parsed_term amount_of text)
 
-module _ (nodes : Nodes) where
-  -- an amount as it stands, without the zeros behind its third decimal
-  abbrev pub amount_said : List ℕ
-  amount_said = cut_zeros (point_in (text_at "PriceAmount" nodes)) (text_at "PriceAmount" nodes)
-
   -- the text of an amount that is rounded
   abbrev pub rounded_text : Option (List ℕ)
-  rounded_text = option_map amount_text (rounded_amount amount_said)
+  rounded_text = option_map amount_text rounded_amount
 
   -- an amount as it is written: rounded where it has more than three decimals, else as it stands
   abbrev pub amount_written : List ℕ
-  amount_written = option_map_or amount_text (rounded_amount amount_said) amount_said
+  amount_written = option_map_or amount_text rounded_amount text
+
+-- an amount as it stands, without the zeros behind its third decimal
+abbrev pub amount_said : Nodes → List ℕ
+amount_said nodes = cut_zeros (point_in (text_at "PriceAmount" nodes)) (text_at "PriceAmount" nodes)
 
 -- an amount of 0, which a choice by price would always take
 abbrev pub is_zero : List ℕ → Bool

@@ -1,5 +1,5 @@
 -- A SupplyDetail: the records that are written of it and of its Prices.
-use Rattle.std.specs.Prelude.{ℕ, List, [], ◌∷◌, Option, Some, None, if◌then◌else◌}
+use Rattle.std.specs.Prelude.{ℕ, List, [], ◌∷◌, Option, None, if◌then◌else◌}
 use Rattle.std.specs.Prelude.{codes, is_some, map}
 use Rattle.std.specs.Prelude.{option_map}
 use Rattle.std.specs.Option.{option_or, unwrap_or}
@@ -10,15 +10,15 @@ use Rattle.onix_terms.specs.Quantity.{quantity_of}
 use Rattle.onix_records.specs.Detail.{detail_of}
 use Rattle.onix_records.specs.Fields.{optional}
 use Rattle.onix_records.specs.declared.row.Opening.{Opening}
-use Rattle.feed_mapping.specs.Elements.{Composite, below_at, each_at, some_at, text_at}
+use Rattle.feed_mapping.specs.Elements.{below_at, each_at, some_at, text_at}
 use Rattle.feed_mapping.specs.Identifiers.{chosen, identifiers_in}
 use Rattle.feed_terms.specs.declared.term.Term.{Term}
 use Rattle.feed_mapping.specs.Notes.{Reason, Reasons, wrong}
-use Rattle.feed_mapping.specs.Outcomes.{Outcome, all_notes, all_records, written_unless}
+use Rattle.feed_mapping.specs.Outcomes.{Outcome, all_notes, written_unless}
 use Rattle.feed_mapping.specs.Parties.{Pair, is_there, pair}
-use Rattle.feed_mapping.specs.PriceTerms.{records_with, supplier_of}
-use Rattle.feed_mapping.specs.Prices.{PriceContext, closing_kinds, first_with_text, firsts_in}
-use Rattle.feed_mapping.specs.Prices.{price_outcome}
+use Rattle.feed_mapping.specs.PriceTerms.{priced_by}
+use Rattle.feed_mapping.specs.PriceTexts.{PriceTexts, first_with_text, prices_in}
+use Rattle.feed_mapping.specs.Prices.{PriceContext, closing_kinds, firsts_in, price_outcome}
 use Rattle.feed_mapping.specs.SupplyChoices.{SupplyChoices}
 use Rattle.feed_mapping.specs.Records.{Fields, Records, desk_reason, first_some, is_field, option_filter}
 use Rattle.feed_mapping.specs.Records.{parsed}
@@ -35,9 +35,6 @@ unpriced_price nodes =
     (some_at "UnpricedItemType" nodes)
 
 module _ (nodes : Nodes) where
-  abbrev pub prices_in : List Composite
-  prices_in = each_at "Price" nodes
-
   -- what stands in the Supplier
   abbrev pub supplier_in : Nodes
   supplier_in = below_at "Supplier" nodes
@@ -46,7 +43,7 @@ module _ (nodes : Nodes) where
   abbrev pub unpriced_in : Option (List ℕ)
   unpriced_in =
       option_or (some_at "UnpricedItemType" nodes)
-      (first_some (map (λ c. unpriced_price c.below) prices_in))
+      (first_some (map (λ c. unpriced_price c.below) (each_at "Price" nodes)))
 
   -- the name of the first of the elements of ONIX 2.1 that say where a SupplyDetail holds
   abbrev pub old_supply : Option (List ℕ)
@@ -121,16 +118,14 @@ module _ (o : Opening) where
       (firsts_in (context_by [] [] nodes) (prices_in nodes)) nodes
 
   -- what a Price of a SupplyDetail with these elements comes to
-  abbrev pub price_in : Nodes → Composite → Outcome
-  price_in nodes price = price_outcome (context_in nodes) price.below
+  abbrev pub price_in : Nodes → PriceTexts → Outcome
+  price_in nodes = price_outcome (context_in nodes)
 
   -- the records of the Prices of a SupplyDetail, with those that the terms compute, where there are
   -- terms
   abbrev pub priced_records : Option (List Term) → List ℕ → Nodes → Records
-  priced_records None preferred nodes = all_records (price_in nodes) (prices_in nodes)
-  priced_records (Some terms) preferred nodes =
-      records_with terms (supplier_of (supplier_id preferred nodes)) (context_in nodes)
-      (prices_in nodes)
+  priced_records terms preferred nodes =
+      priced_by terms (supplier_id preferred nodes) (context_in nodes) (prices_in nodes)
 
   -- what a SupplyDetail comes to: its record with those of its Prices, or it is left out
   abbrev pub detail_outcome : SupplyChoices → Nodes → Outcome

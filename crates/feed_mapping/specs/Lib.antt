@@ -12,6 +12,7 @@ pub mod Narrower
 pub mod NarrowerSets
 pub mod Dates
 pub mod DateViews
+pub mod PriceTexts
 pub mod Prices
 pub mod PriceViews
 pub mod OtherSuppliers

@@ -1,7 +1,6 @@
 -- What a composite comes to.
 use Rattle.std.specs.Prelude.{List, [], ◌++◌, Option, Some, None, option_to_list}
 use Rattle.std.specs.List.{flat_map}
-use Rattle.feed_mapping.specs.Elements.{Composite}
 use Rattle.feed_mapping.specs.Notes.{Reason}
 use Rattle.feed_mapping.specs.Records.{Records}
 
@@ -36,7 +35,7 @@ outcome_reason other = None
 abbrev pub outcome_notes : Outcome → List Reason
 outcome_notes outcome = notes_below outcome ++ option_to_list (outcome_reason outcome)
 
-module _ (comes : Composite → Outcome) (composites : List Composite) where
+module _ {A : Type 0} (comes : A → Outcome) (composites : List A) where
   -- the records of several composites, one after the other
   abbrev pub all_records : Records
   all_records = flat_map (λ c. outcome_records (comes c)) composites

@@ -4,7 +4,7 @@ use Rattle.std.specs.List.{AllByRecursion}
 use Rattle.feed_outline.specs.Nodes.{Nodes}
 use Rattle.onix_records.specs.declared.row.Opening.{Opening}
 use Rattle.feed_mapping.specs.Details.{context_in, detail_outcome, price_in, priced_records}
-use Rattle.feed_mapping.specs.Details.{prices_in}
+use Rattle.feed_mapping.specs.PriceTexts.{PriceTexts, prices_in}
 use Rattle.feed_mapping.specs.Notes.{Reason}
 use Rattle.feed_mapping.specs.Outcomes.{Outcome, all_notes, all_records, left_out, notes_below}
 use Rattle.feed_mapping.specs.Outcomes.{nothing, outcome_records, written}
@@ -14,11 +14,11 @@ use Rattle.feed_mapping.specs.SupplyChoices.{SupplyChoices}
 use Rattle.feed_mapping.specs.Supplies.{detail_in, details_in, supply_in, supply_outcome}
 
 -- a Price comes to nothing, by the rule, to one record, or to one note that it is left out
-abbrev pub IsPrice : PriceContext → Nodes → Outcome → Type 0
-IsPrice context nodes nothing = is_nothing context nodes ≡ true
-IsPrice context nodes (written records notes) =
+abbrev pub IsPrice : PriceContext → PriceTexts → Outcome → Type 0
+IsPrice context price nothing = is_nothing context price ≡ true
+IsPrice context price (written records notes) =
     (fields : List (List ℕ)) × (records ≡ (codes "Price" ∷ fields) ∷ [])
-IsPrice context nodes (left_out reason) = ⊤
+IsPrice context price (left_out reason) = ⊤
 
 -- a SupplyDetail is written with what its Prices come to, in order
 pub record HasPrices (o : Opening) (choices : SupplyChoices) (nodes : Nodes) : Type 0 where
@@ -27,7 +27,7 @@ pub record HasPrices (o : Opening) (choices : SupplyChoices) (nodes : Nodes) : T
       ≡ own ∷ priced_records o choices.terms choices.preferred nodes
   pub notes : notes_below (detail_outcome o choices nodes)
       ≡ all_notes (price_in o nodes) (prices_in nodes)
-  pub each : AllByRecursion (λ p. IsPrice (context_in o nodes) p.below (price_in o nodes p))
+  pub each : AllByRecursion (λ p. IsPrice (context_in o nodes) p (price_in o nodes p))
       (prices_in nodes)
 
 -- a ProductSupply is written with what its SupplyDetails come to, in order

@@ -21,6 +21,7 @@ use Rattle.feed_mapping.specs.Again.{comes_again}
 use Rattle.feed_mapping.specs.Elements.{Composite, each_at, some_at, text_at}
 use Rattle.feed_mapping.specs.Outcomes.{Outcome, all_records, written}
 use Rattle.feed_mapping.specs.Parties.{Pair, is_there}
+use Rattle.feed_mapping.specs.PriceTexts.{PriceTexts}
 use Rattle.feed_mapping.specs.Prices.{PriceContext, is_for_others, kind_in, written_fields}
 use Rattle.feed_mapping.specs.Prices.{price_outcome}
 use Rattle.feed_mapping.specs.Records.{Fields, Records, parsed, parsed_term}
@@ -95,38 +96,34 @@ given_by (written records notes) (Some price) fields nodes = given_of price fiel
 given_by outcome price fields nodes = []
 
 -- the type and the currency of a Price, or those of the header, unless it is for others
-abbrev pub kinds_closed : Opening → Nodes → List Kind
-kinds_closed o nodes = if is_for_others nodes then [] else kind_in o nodes ∷ []
+abbrev pub kinds_closed : Opening → PriceTexts → List Kind
+kinds_closed o price = if is_for_others price then [] else kind_in o price ∷ []
 
 module _ (context : PriceContext) where
   -- what they see of a Price
-  abbrev pub given_in : Nodes → List GivenPrice
-  given_in nodes =
-      given_by (price_outcome context nodes)
-      (parsed (price_of context.opening) (written_fields context nodes))
-      (codes "Price" ∷ written_fields context nodes) nodes
+  abbrev pub given_in : PriceTexts → List GivenPrice
+  given_in price =
+      given_by (price_outcome context price)
+      (parsed (price_of context.opening) (written_fields context price))
+      (codes "Price" ∷ written_fields context price) price.below
 
   -- of some Prices
-  abbrev pub all_given : List Composite → List GivenPrice
-  all_given prices = flat_map (λ c. given_in c.below) prices
-
-  -- what comes of a Price
-  abbrev pub outcome_in : Composite → Outcome
-  outcome_in c = price_outcome context c.below
+  abbrev pub all_given : List PriceTexts → List GivenPrice
+  all_given prices = flat_map given_in prices
 
   -- the type and the currency of a Price that gives no record, unless it is for others
-  abbrev pub closed_by : Composite → List Kind
-  closed_by c =
-      if nat_lt 0 (length (given_in c.below)) then [] else kinds_closed context.opening c.below
+  abbrev pub closed_by : PriceTexts → List Kind
+  closed_by price =
+      if nat_lt 0 (length (given_in price)) then [] else kinds_closed context.opening price
 
   -- those of some Prices
-  abbrev pub closed_kinds : List Composite → List Kind
+  abbrev pub closed_kinds : List PriceTexts → List Kind
   closed_kinds prices = flat_map closed_by prices
 
 -- what the terms see of the Prices of a SupplyDetail fits these records
-pub record AreWritten (context : PriceContext) (prices : List Composite) (kept : Records)
+pub record AreWritten (context : PriceContext) (prices : List PriceTexts) (kept : Records)
     (seen : List GivenPrice) (kinds : List Kind) : Type 0 where
-  pub records : kept ≡ all_records (outcome_in context) prices
+  pub records : kept ≡ all_records (price_outcome context) prices
   pub given : seen ≡ all_given context prices
   pub closed : kinds ≡ closed_kinds context prices
 
@@ -139,9 +136,15 @@ supplier_of i =
 -- ---- what comes of them
 
 module _ (terms : List Term) (supplier : Option (List ℕ)) (context : PriceContext)
-    (prices : List Composite) where
+    (prices : List PriceTexts) where
   -- the records of the Prices of a SupplyDetail, with those that the terms compute
   abbrev pub records_with : Records
   records_with =
       with_terms terms supplier (closed_kinds context prices) (all_given context prices)
-      (all_records (outcome_in context) prices)
+      (all_records (price_outcome context) prices)
+
+-- the same, where there are terms
+abbrev pub priced_by : Option (List Term) → Pair → PriceContext → List PriceTexts → Records
+priced_by None supplier context prices = all_records (price_outcome context) prices
+priced_by (Some terms) supplier context prices =
+    records_with terms (supplier_of supplier) context prices

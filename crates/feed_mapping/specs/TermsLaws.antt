@@ -12,7 +12,8 @@ use Rattle.feed_terms.specs.HeldBack.{is_held_back}
 use Rattle.feed_terms.specs.Laws.{less_behind}
 use Rattle.feed_terms.specs.WithTerms.{written_of}
 use Rattle.feed_terms.specs.declared.term.Term.{Term}
-use Rattle.feed_mapping.specs.Details.{context_in, priced_records, prices_in, supplier_id}
+use Rattle.feed_mapping.specs.Details.{context_in, priced_records, supplier_id}
+use Rattle.feed_mapping.specs.PriceTexts.{prices_in}
 use Rattle.feed_mapping.specs.PriceTerms.{all_given, closed_kinds, supplier_of}
 
 -- the desk reads these prices of records

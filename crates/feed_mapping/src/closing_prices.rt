@@ -1,17 +1,14 @@
 //! Which Prices of a SupplyDetail close others: those that would be written but for their dates.
 
-ghost use Rattle.std.specs.Prelude.{◌≡◌, ◌++◌, IfOk, OnOk, codes};
+ghost use Rattle.std.specs.Prelude.{◌≡◌, ◌++◌, IfOk, OnOk, map};
 ghost use Rattle.std.specs.Option.{option_to_list};
-ghost use Rattle.feed_mapping.specs.Elements.{composites};
+ghost use Rattle.feed_mapping.specs.PriceTexts.{price_view};
 ghost use Rattle.feed_mapping.specs.Prices.{closing_kind, closing_kinds, context_view};
 
-use crate::dates::{days_in, right_days};
-use crate::elements::next_composite;
 use crate::price_kinds::kind_in;
-use crate::prices::{PriceContext, early_reason, free_reason, is_nothing, is_taken_then};
-use crate::territories::area_in;
+use crate::price_texts::PriceTexts;
+use crate::prices::{PriceContext, early_reason, free_reason, is_nothing, is_taken};
 use csv_records::fields::FieldBuffer;
-use feed_outline::Elements;
 use feed_terms::price::Kind;
 use onix_terms::items::Items;
 use std::alloc::{AllocError, Global};
@@ -20,23 +17,20 @@ use std::alloc::{AllocError, Global};
 fn closing_kind(
     alloc: Global,
     context: &PriceContext<'_, '_, '_>,
-    elements: &Elements<'_>,
+    price: &PriceTexts<'_>,
     fields: &mut FieldBuffer,
 ) -> Result<Option<Kind>, AllocError>
     ensures { IfOk result
-        (λ kind. kind ≡ closing_kind (context_view context.now) elements.now) }
+        (λ kind. kind ≡ closing_kind (context_view context.now) (price_view price.now)) }
 {
-    let dated = days_in(elements);
-    if is_nothing(context, elements) || dated.is_ok() {
+    if is_nothing(context, price)
+        || price.dated.is_ok()
+        || early_reason(None, free_reason(price), price).is_some()
+    {
         return Ok(None);
     }
-    let area = area_in(elements);
-    if early_reason(&area, None, free_reason(elements), elements).is_some() {
-        return Ok(None);
-    }
-    let days = right_days(&dated);
-    if is_taken_then(alloc, context, elements, &area, days, fields)? {
-        Ok(Some(kind_in(context.opening, elements)))
+    if is_taken(alloc, context, price, fields)? {
+        Ok(Some(kind_in(context.opening, price)))
     } else {
         Ok(None)
     }
@@ -46,14 +40,14 @@ fn closing_kind(
 fn add_closing_kind(
     alloc: Global,
     context: &PriceContext<'_, '_, '_>,
-    elements: &Elements<'_>,
+    price: &PriceTexts<'_>,
     fields: &mut FieldBuffer,
     kinds: &mut Items<Kind>,
 ) -> Result<(), AllocError>
     ensures { OnOk result (kinds.new ≡ kinds.old
-        ++ option_to_list (closing_kind (context_view context.now) elements.now)) }
+        ++ option_to_list (closing_kind (context_view context.now) (price_view price.now))) }
 {
-    match closing_kind(alloc, context, elements, fields)? {
+    match closing_kind(alloc, context, price, fields)? {
         Some(
             Kind {
                 price_type,
@@ -72,16 +66,16 @@ fn add_closing_kind(
 pub(crate) fn closing_kinds(
     alloc: Global,
     context: &PriceContext<'_, '_, '_>,
-    elements: &Elements<'_>,
+    prices: &[PriceTexts<'_>],
     fields: &mut FieldBuffer,
 ) -> Result<Items<Kind>, AllocError>
     ensures { IfOk result (λ kinds. kinds
-        ≡ closing_kinds (context_view context.now) (composites (codes "Price") elements.now)) }
+        ≡ closing_kinds (context_view context.now) (map price_view prices.now)) }
 {
     let mut kinds = Items::new(alloc);
-    let mut rest = elements.copy();
-    while let Some((price, behind)) = next_composite(b"Price", &rest) {
-        add_closing_kind(alloc, context, &price.below, fields, &mut kinds)?;
+    let mut rest = prices;
+    while let [price, behind @ ..] = rest {
+        add_closing_kind(alloc, context, price, fields, &mut kinds)?;
         rest = behind;
     }
     Ok(kinds)

@@ -4,18 +4,19 @@ ghost use Rattle.std.specs.Prelude.{◌≡◌, ◌++◌, ◌∷◌, ◌+◌, ◌
 ghost use Rattle.std.specs.List.{list_all};
 ghost use Rattle.std.specs.Option.{unwrap_or};
 ghost use Rattle.std.specs.Str.{is_utf8};
-ghost use Rattle.feed_mapping.specs.Details.{context_by, context_in, old_supply, detail_fields, detail_outcome, detail_reasons, detail_reason, identifier_reasons, name_reason, price_in, priced_records, prices_in, supplier_id, unpriced_in, unpriced_price};
+ghost use Rattle.feed_mapping.specs.Details.{context_by, old_supply, detail_fields, detail_outcome, detail_reasons, detail_reason, identifier_reasons, name_reason, supplier_id, unpriced_in, unpriced_price};
 ghost use Rattle.feed_outline.specs.Composites.{text_in};
 ghost use Rattle.feed_mapping.specs.Notes.{note_views, wrong};
 ghost use Rattle.feed_mapping.specs.Outcomes.{all_notes, all_records, notes_below, outcome_reason, outcome_records, written_unless};
 ghost use Rattle.feed_mapping.specs.PartyViews.{pair_view};
 ghost use Rattle.feed_mapping.specs.PriceViews.{reason_read, text_view};
-ghost use Rattle.feed_mapping.specs.Prices.{context_view};
+ghost use Rattle.feed_mapping.specs.PriceTerms.{priced_by};
+ghost use Rattle.feed_mapping.specs.PriceTexts.{price_view};
+ghost use Rattle.feed_mapping.specs.Prices.{context_view, price_outcome};
 ghost use Rattle.feed_mapping.specs.Records.{first_some, option_filter, parsed, parsed_term};
 ghost use Rattle.onix_terms.specs.Quantity.{quantity_of};
 ghost use Rattle.feed_mapping.specs.SupplyChoices.{supply_choices_view};
 ghost use Rattle.feed_mapping.specs.declared.notes.Wrong.TheVariants as bad;
-ghost use Rattle.onix_records.specs.declared.row.Opening.{Opening as Said};
 ghost use Rattle.onix_records.specs.Detail.{detail_of};
 ghost use Rattle.onix_records.specs.Gives.{Gives};
 
@@ -28,7 +29,8 @@ use crate::notes::{Note, Reason, Wrong};
 use crate::other_suppliers::next_detail;
 use crate::parties::{NO_PAIR, Pair};
 use crate::price_terms::{add_computed_prices, supplier_of};
-use crate::prices::{PriceContext, add_price, because_old, fill_record, first_with_text};
+use crate::price_texts::{PriceTexts, first_with_text, prices_in};
+use crate::prices::{PriceContext, add_price, because_old, fill_record};
 use crate::records::{first_of, is_field, may_be_empty, parsed_code, parsed_quantity, unless};
 use crate::supply_choices::SupplyChoices;
 use csv_records::buffer::RecordBuffer;
@@ -290,23 +292,20 @@ fn context_by<'a, 'b, 'c>(
 
 // Adds what comes of the Prices of a SupplyDetail.
 fn add_prices<'a>(
-    alloc: Global,
     context: &PriceContext<'_, '_, '_>,
-    elements: &Elements<'a>,
+    prices: &[PriceTexts<'a>],
     fields: &mut FieldBuffer,
     records: &mut RecordBuffer,
     notes: &mut Vec<Note<'a>>,
 ) -> Result<(), AllocError>
-    ensures records { (o : Said) → context_view context.now ≡ context_in o elements.now
-        → OnOk result (records.new ≡ records.old
-        ++ all_records (price_in o elements.now) (prices_in elements.now)) }
-    ensures notes { (o : Said) → context_view context.now ≡ context_in o elements.now
-        → OnOk result (note_views notes.new.items ≡ note_views notes.old.items
-        ++ all_notes (price_in o elements.now) (prices_in elements.now)) }
+    ensures records { OnOk result (records.new ≡ records.old
+        ++ all_records (price_outcome (context_view context.now)) (map price_view prices.now)) }
+    ensures notes { OnOk result (note_views notes.new.items ≡ note_views notes.old.items
+        ++ all_notes (price_outcome (context_view context.now)) (map price_view prices.now)) }
 {
-    let mut rest = elements.copy();
-    while let Some((price, behind)) = next_composite(b"Price", &rest) {
-        add_price(alloc, context, &price, fields, records, notes)?;
+    let mut rest = prices;
+    while let [price, behind @ ..] = rest {
+        add_price(context, price, fields, records, notes)?;
         rest = behind;
     }
     Ok(())
@@ -318,35 +317,23 @@ fn add_priced<'a>(
     choices: &SupplyChoices<'_>,
     supplier: Pair<'a>,
     context: &PriceContext<'_, '_, '_>,
-    elements: &Elements<'a>,
+    prices: &[PriceTexts<'a>],
     fields: &mut FieldBuffer,
     records: &mut RecordBuffer,
     notes: &mut Vec<Note<'a>>,
 ) -> Result<(), AllocError>
-    ensures records { (o : Said) → context_view context.now ≡ context_in o elements.now
-        → pair_view supplier.entry
-        ≡ supplier_id (supply_choices_view choices.now).preferred elements.now
-        → OnOk result (records.new ≡ records.old
-        ++ priced_records o (supply_choices_view choices.now).terms
-        (supply_choices_view choices.now).preferred elements.now) }
-    ensures notes { (o : Said) → context_view context.now ≡ context_in o elements.now
-        → OnOk result (note_views notes.new.items ≡ note_views notes.old.items
-        ++ all_notes (price_in o elements.now) (prices_in elements.now)) }
+    ensures records { OnOk result (records.new ≡ records.old
+        ++ priced_by (supply_choices_view choices.now).terms (pair_view supplier.entry)
+        (context_view context.now) (map price_view prices.now)) }
+    ensures notes { OnOk result (note_views notes.new.items ≡ note_views notes.old.items
+        ++ all_notes (price_outcome (context_view context.now)) (map price_view prices.now)) }
 {
-    let alloc = *notes.allocator();
     let Some(terms) = choices.terms else {
-        return add_prices(alloc, context, elements, fields, records, notes);
+        return add_prices(context, prices, fields, records, notes);
     };
-    let supplier = supplier_of(alloc, supplier)?;
-    add_computed_prices(
-        terms,
-        supplier.as_ref(),
-        context,
-        elements,
-        fields,
-        records,
-        notes,
-    )
+    let supplier = supplier_of(*notes.allocator(), supplier)?;
+    let supplier = supplier.as_ref();
+    add_computed_prices(terms, supplier, context, prices, fields, records, notes)
 }
 
 /// Adds the records of a SupplyDetail and of its Prices in a message that begins so, and notes on
@@ -375,13 +362,13 @@ pub(crate) fn add_detail<'a>(
     let supplier = supplier_id(choices.id_type, elements);
     let left_out = write_detail(alloc, supplier, elements, fields, records)?;
     if left_out.is_none() {
+        let prices = prices_in(alloc, elements)?;
+        let prices = prices.as_slice();
         let first = context_by(opening, &[], &[], elements);
-        let closed = closing_kinds(alloc, &first, elements, fields)?;
-        let firsts = firsts_in(alloc, &first, elements)?;
+        let closed = closing_kinds(alloc, &first, prices, fields)?;
+        let firsts = firsts_in(alloc, &first, prices)?;
         let context = context_by(opening, closed.as_slice(), firsts.as_slice(), elements);
-        add_priced(
-            choices, supplier, &context, elements, fields, records, notes,
-        )?;
+        add_priced(choices, supplier, &context, prices, fields, records, notes)?;
     }
     Ok(left_out)
 }

@@ -5,7 +5,8 @@ ghost use Rattle.feed_mapping.specs.Notes.{note_views};
 
 use crate::elements::{first_composite, next_composite};
 use crate::notes::{Foreign, Note, push_aside};
-use crate::price_amounts::{amount_said, rounded_amount};
+use crate::price_amounts::rounded_amount;
+use crate::price_texts::PriceTexts;
 use feed_outline::Elements;
 use std::alloc::AllocError;
 
@@ -27,13 +28,13 @@ fn push_unread<'a>(
 }
 
 // Adds a note where the amount of a Price is rounded.
-fn push_rounded<'a>(notes: &mut Vec<Note<'a>>, elements: &Elements<'a>) -> Result<(), AllocError>
+fn push_rounded<'a>(notes: &mut Vec<Note<'a>>, price: &PriceTexts<'a>) -> Result<(), AllocError>
     ensures { OnOk result (note_views notes.new.items ≡ note_views notes.old.items) }
 {
-    if rounded_amount(amount_said(elements)).is_none() {
+    if rounded_amount(price.amount).is_none() {
         return Ok(());
     }
-    match first_composite(b"PriceAmount", elements) {
+    match first_composite(b"PriceAmount", &price.below) {
         Some(amount) => push_aside(notes, amount.line, Foreign::Rounded, b""),
         None => Ok(()),
     }
@@ -42,11 +43,11 @@ fn push_rounded<'a>(notes: &mut Vec<Note<'a>>, elements: &Elements<'a>) -> Resul
 /// Adds the notes on what of a Price is counted alone.
 pub(crate) fn push_counted<'a>(
     notes: &mut Vec<Note<'a>>,
-    elements: &Elements<'a>,
+    price: &PriceTexts<'a>,
 ) -> Result<(), AllocError>
     ensures { OnOk result (note_views notes.new.items ≡ note_views notes.old.items) }
 {
-    push_unread(notes, b"Discount", Foreign::Discount, elements)?;
-    push_unread(notes, b"DiscountCoded", Foreign::DiscountCoded, elements)?;
-    push_rounded(notes, elements)
+    push_unread(notes, b"Discount", Foreign::Discount, &price.below)?;
+    push_unread(notes, b"DiscountCoded", Foreign::DiscountCoded, &price.below)?;
+    push_rounded(notes, price)
 }

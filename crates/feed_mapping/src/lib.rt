@@ -21,6 +21,7 @@ pub mod parties;
 mod price_amounts;
 mod price_kinds;
 mod price_terms;
+pub mod price_texts;
 pub mod prices;
 pub mod product_records;
 pub mod products;

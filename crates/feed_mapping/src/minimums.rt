@@ -2,19 +2,10 @@
 
 ghost use Rattle.std.specs.Prelude.{◌≡◌};
 ghost use Rattle.feed_mapping.specs.PriceViews.{text_view};
-ghost use Rattle.feed_mapping.specs.Prices.{copies_of, greater_of, is_greater, own_minimum};
+ghost use Rattle.feed_mapping.specs.Prices.{copies_of, greater_of, is_greater};
 
-use crate::records::{are_zeros, parsed_quantity};
-use feed_outline::{Elements, text_in};
+use crate::records::parsed_quantity;
 use onix_terms::quantity::Quantity;
-
-/// The MinimumOrderQuantity of a Price, where it is not of zeros alone.
-pub(crate) fn own_minimum<'a>(elements: &Elements<'a>) -> Option<&'a [u8]>
-    ensures { text_view result ≡ own_minimum elements.now }
-{
-    let text = text_in(b"MinimumOrderQuantity", elements)?;
-    if are_zeros(text) { None } else { Some(text) }
-}
 
 // Whether a quantity is greater than another, where both are quantities.
 fn is_greater(one: Option<Quantity>, other: Option<Quantity>) -> bool

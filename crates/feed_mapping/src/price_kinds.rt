@@ -2,30 +2,28 @@
 
 ghost use Rattle.std.specs.Prelude.{◌≡◌};
 ghost use Rattle.std.specs.List.{list_any};
+ghost use Rattle.feed_mapping.specs.PriceTexts.{price_view};
 ghost use Rattle.feed_mapping.specs.Prices.{is_kind, kind_in};
 
-use crate::elements::text_or_empty;
+use crate::price_texts::PriceTexts;
 use crate::records::{parsed_code, parsed_currency, value_or_default};
-use feed_outline::Elements;
 use feed_terms::price::Kind;
 use onix_records::row::Opening;
 
 // The price type and the currency of a Price.
-pub(crate) fn kind_in(opening: &Opening, elements: &Elements<'_>) -> Kind
-    ensures { result ≡ kind_in opening.now elements.now }
+pub(crate) fn kind_in(opening: &Opening, price: &PriceTexts<'_>) -> Kind
+    ensures { result ≡ kind_in opening.now (price_view price.now) }
 {
-    let price_type = text_or_empty(b"PriceType", elements);
-    let currency = text_or_empty(b"CurrencyCode", elements);
     Kind {
         price_type: value_or_default(
             opening.header.default_type,
-            price_type,
-            parsed_code(price_type),
+            price.price_type,
+            parsed_code(price.price_type),
         ),
         currency: value_or_default(
             opening.header.default_currency,
-            currency,
-            parsed_currency(currency),
+            price.currency,
+            parsed_currency(price.currency),
         ),
     }
 }

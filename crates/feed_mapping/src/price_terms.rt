@@ -1,14 +1,15 @@
 //! What the terms of the shop see of the Prices of a SupplyDetail, and what comes of them by these.
 
-ghost use Rattle.std.specs.Prelude.{◌≡◌, ◌≤◌, ◌++◌, IfOk, OnOk, codes, length};
+ghost use Rattle.std.specs.Prelude.{◌≡◌, ◌≤◌, ◌++◌, IfOk, OnOk, codes, length, map};
 ghost use Rattle.std.specs.List.{flat_map};
 ghost use Rattle.std.specs.Option.{option_copied, option_to_list};
 ghost use Rattle.feed_mapping.specs.Elements.{composites};
 ghost use Rattle.feed_mapping.specs.Notes.{note_views};
 ghost use Rattle.feed_mapping.specs.Outcomes.{all_notes, outcome_notes, outcome_records};
 ghost use Rattle.feed_mapping.specs.PartyViews.{pair_view};
-ghost use Rattle.feed_mapping.specs.Prices.{context_view};
-ghost use Rattle.feed_mapping.specs.PriceTerms.{AreWritten, area_text, closed_by, code_in, discount_in, given_in, given_of, is_garbled, is_mixed, is_of_terms, kinds_closed, outcome_in, records_with, supplier_of, tax_in};
+ghost use Rattle.feed_mapping.specs.PriceTexts.{price_view};
+ghost use Rattle.feed_mapping.specs.Prices.{context_view, price_outcome};
+ghost use Rattle.feed_mapping.specs.PriceTerms.{AreWritten, area_text, closed_by, code_in, discount_in, given_in, given_of, is_garbled, is_mixed, is_of_terms, kinds_closed, records_with, supplier_of, tax_in};
 
 use crate::again::comes_again;
 use crate::elements::{Composite, next_composite, text_or_empty};
@@ -16,6 +17,7 @@ use crate::identifiers::is_there;
 use crate::notes::{Foreign, Note, push_aside};
 use crate::parties::Pair;
 use crate::price_kinds::kind_in;
+use crate::price_texts::PriceTexts;
 use crate::prices::{PriceContext, add_price, is_for_others, price_in};
 use crate::records::{push_some, utf8_text};
 use csv_records::buffer::RecordBuffer;
@@ -184,19 +186,19 @@ fn given_of(
 // it is one, unless it is for others.
 fn push_closed(
     opening: &Opening,
-    elements: &Elements<'_>,
+    price: &PriceTexts<'_>,
     closed: &mut Vec<Kind>,
 ) -> Result<(), AllocError>
-    ensures { OnOk result
-        (closed.new.items ≡ closed.old.items ++ kinds_closed opening.now elements.now) }
+    ensures { OnOk result (closed.new.items
+        ≡ closed.old.items ++ kinds_closed opening.now (price_view price.now)) }
 {
-    if is_for_others(elements) {
+    if is_for_others(price) {
         return Ok(());
     }
     let Kind {
         price_type,
         currency,
-    } = kind_in(opening, elements);
+    } = kind_in(opening, price);
     closed.push(Kind {
         price_type,
         currency,
@@ -224,24 +226,24 @@ struct WrittenPrices<'a> {
 fn add_written<'a>(
     alloc: Global,
     context: &PriceContext<'_, '_, '_>,
-    price: &Composite<'a>,
+    price: &PriceTexts<'a>,
     fields: &mut FieldBuffer,
     written: &mut WrittenPrices<'a>,
     notes: &mut Vec<Note<'a>>,
 ) -> Result<(), AllocError>
-    ensures records { OnOk result (written.new.records ≡ written.old.records
-        ++ outcome_records (outcome_in (context_view context.now) price.now)) }
+    ensures records { OnOk result (written.new.records ≡ written.old.records ++ outcome_records
+        (price_outcome (context_view context.now) (price_view price.now))) }
     ensures given { OnOk result (written.new.given.items ≡ written.old.given.items
-        ++ given_in (context_view context.now) price.now.below) }
-    ensures closed { OnOk result (written.new.closed.items
-        ≡ written.old.closed.items ++ closed_by (context_view context.now) price.now) }
+        ++ given_in (context_view context.now) (price_view price.now)) }
+    ensures closed { OnOk result (written.new.closed.items ≡ written.old.closed.items
+        ++ closed_by (context_view context.now) (price_view price.now)) }
     ensures notes { OnOk result (note_views notes.new.items ≡ note_views notes.old.items
-        ++ outcome_notes (outcome_in (context_view context.now) price.now)) }
+        ++ outcome_notes (price_outcome (context_view context.now) (price_view price.now))) }
 {
     let count = written.records.len();
-    add_price(alloc, context, price, fields, &mut written.records, notes)?;
+    add_price(context, price, fields, &mut written.records, notes)?;
     if written.records.len() == count {
-        push_closed(context.opening, &price.below, &mut written.closed)?;
+        push_closed(context.opening, price, &mut written.closed)?;
         return Ok(());
     }
     // A record that is written is that of a Price, so it is memory that ran out.
@@ -258,15 +260,14 @@ fn add_written<'a>(
 fn written_in<'a>(
     alloc: Global,
     context: &PriceContext<'_, '_, '_>,
-    elements: &Elements<'a>,
+    prices: &[PriceTexts<'a>],
     fields: &mut FieldBuffer,
     notes: &mut Vec<Note<'a>>,
 ) -> Result<WrittenPrices<'a>, AllocError>
     ensures written { IfOk result (λ w. AreWritten (context_view context.now)
-        (composites (codes "Price") elements.now) w.records w.given.items w.closed.items) }
+        (map price_view prices.now) w.records w.given.items w.closed.items) }
     ensures notes { OnOk result (note_views notes.new.items ≡ note_views notes.old.items
-        ++ all_notes (outcome_in (context_view context.now))
-        (composites (codes "Price") elements.now)) }
+        ++ all_notes (price_outcome (context_view context.now)) (map price_view prices.now)) }
 {
     let mut written = WrittenPrices {
         records: RecordBuffer::new(alloc),
@@ -274,9 +275,9 @@ fn written_in<'a>(
         places: Vec::new(alloc),
         closed: Vec::new(alloc),
     };
-    let mut rest = elements.copy();
-    while let Some((price, behind)) = next_composite(b"Price", &rest) {
-        add_written(alloc, context, &price, fields, &mut written, notes)?;
+    let mut rest = prices;
+    while let [price, behind @ ..] = rest {
+        add_written(alloc, context, price, fields, &mut written, notes)?;
         rest = behind;
     }
     Ok(written)
@@ -357,20 +358,18 @@ pub(crate) fn add_computed_prices<'a>(
     terms: &Terms,
     supplier: Option<&Text>,
     context: &PriceContext<'_, '_, '_>,
-    elements: &Elements<'a>,
+    prices: &[PriceTexts<'a>],
     fields: &mut FieldBuffer,
     records: &mut RecordBuffer,
     notes: &mut Vec<Note<'a>>,
 ) -> Result<(), AllocError>
     ensures records { OnOk result (records.new ≡ records.old ++ records_with terms.now
-        (option_copied supplier.entry) (context_view context.now)
-        (composites (codes "Price") elements.now)) }
+        (option_copied supplier.entry) (context_view context.now) (map price_view prices.now)) }
     ensures notes { OnOk result (note_views notes.new.items ≡ note_views notes.old.items
-        ++ all_notes (outcome_in (context_view context.now))
-        (composites (codes "Price") elements.now)) }
+        ++ all_notes (price_outcome (context_view context.now)) (map price_view prices.now)) }
 {
     let alloc = *notes.allocator();
-    let written = written_in(alloc, context, elements, fields, notes)?;
+    let written = written_in(alloc, context, prices, fields, notes)?;
     let remarks = add_with_terms(
         alloc,
         terms,

@@ -1,40 +1,38 @@
 //! Prices.
 
-ghost use Rattle.std.specs.Prelude.{◌≡◌, ◌++◌, ◌∷◌, ◌<◌, [], ℕ, List, None, Some, IfOk, IsErrOf, OnOk, false, true, ◌&&◌, find, is_some, map, not, codes, option_map};
+ghost use Rattle.std.specs.Prelude.{◌≡◌, ◌++◌, ◌∷◌, ◌<◌, [], ℕ, List, None, Some, IfOk, IsErrOf, OnOk, false, true, ◌&&◌, is_some, map, not, codes, option_map};
 ghost use Rattle.std.specs.List.{list_all};
 ghost use Rattle.std.specs.Option.{option_copied, option_to_list};
 ghost use Rattle.std.specs.Str.{is_utf8};
-ghost use Rattle.feed_mapping.specs.Elements.{composites, first, text_or_empty};
 ghost use Rattle.feed_mapping.specs.Notes.{foreign, is_wrong, note_views, wrong};
 ghost use Rattle.feed_mapping.specs.Outcomes.{outcome_notes, outcome_records};
-ghost use Rattle.feed_mapping.specs.PriceViews.{AreOwned, reason_read, text_view};
+ghost use Rattle.feed_mapping.specs.PriceViews.{reason_read, text_view};
+ghost use Rattle.feed_mapping.specs.PriceTexts.{price_view};
 ghost use Rattle.feed_mapping.specs.Amounts.{amount_written, rounded_text};
-ghost use Rattle.feed_mapping.specs.Prices.{AddsUnless, closed_reason, context_view, first_with_text, is_other_qualifier, is_taken, kind_in, last_reason, long_reason, narrowed, written_fields, early_reasons, eight_fields, fields_in, free_reason, is_for_others, is_limited, is_nothing, is_other, late_reasons, old_element, outcome_of, price_fields, price_outcome, price_reasons, right_days};
+ghost use Rattle.feed_mapping.specs.Prices.{AddsUnless, AreOwned, closed_reason, context_view, is_taken, last_reason, long_reason, narrowed, written_fields, early_reasons, eight_fields, fields_in, free_reason, is_for_others, is_nothing, outcome_of, price_fields, price_outcome, price_reasons};
 ghost use Rattle.feed_mapping.specs.Records.{first_some, option_filter, parsed};
-ghost use Rattle.feed_mapping.specs.Territories.{AreRenamed, area_in, area_view};
+ghost use Rattle.feed_mapping.specs.Territories.{AreRenamed};
 ghost use Rattle.feed_mapping.specs.declared.notes.Wrong.TheVariants.{OldElement};
 ghost use Rattle.onix_records.specs.Gives.{Gives};
 ghost use Rattle.onix_records.specs.Price.{day_field, price_of};
-ghost use Rattle.feed_outline.specs.Composites.{text_in};
 
-use crate::dates::{Days, days_in, right_days, wrong_date};
+use crate::dates::{right_days, wrong_date};
 use crate::discounts::push_counted;
-use crate::elements::{Composite, first_composite, next_composite, text_or_empty};
-use crate::minimums::{greater_of, own_minimum};
+use crate::minimums::greater_of;
 use crate::narrower::First;
 use crate::narrower_prices::narrowed_in;
 use crate::notes::{Foreign, Note, Reason, Wrong, push_reason};
-use crate::price_amounts::{amount_said, is_zero, rounded_text};
+use crate::price_amounts::{is_zero, rounded_text};
 use crate::price_kinds::{has_kind, kind_in};
+use crate::price_texts::PriceTexts;
 use crate::reasons::field_reason;
-use crate::records::{former, push_texts};
+use crate::records::{first_of, push_texts};
 use crate::territories::{
-    Area, Renamed, area_fields, area_in, form_reason, push_territory_notes, renamed_in, unsupported,
+    Renamed, area_fields, form_reason, push_territory_notes, renamed_in, unsupported,
 };
 use csv_records::buffer::RecordBuffer;
 use csv_records::fields::FieldBuffer;
 use csv_records::record::Record;
-use feed_outline::{Elements, text_in};
 use feed_terms::price::Kind;
 use onix_records::fields::read_fields;
 use onix_records::parts::Price;
@@ -55,99 +53,6 @@ pub struct PriceContext<'a, 'b, 'c> {
     pub minimum: Option<&'b [u8]>,
     pub closed: &'c [Kind],
     pub firsts: &'c [First],
-}
-
-fn is_other(code: &[u8]) -> bool
-    ensures { result ≡ is_other code.now }
-{
-    code != b"00".as_slice()
-}
-
-// A PriceQualifier that is not that of the ordinary price.
-fn other_qualifier<'a>(elements: &Elements<'a>) -> Option<&'a [u8]>
-    ensures { text_view result
-        ≡ option_filter is_other_qualifier (text_in (codes "PriceQualifier") elements.now) }
-{
-    match text_in(b"PriceQualifier", elements) {
-        Some(text) => if text == b"00".as_slice() || text == b"05".as_slice() {
-            None
-        } else {
-            Some(text)
-        },
-        None => None,
-    }
-}
-
-// The text of an element, where it is another than 00.
-fn other_in<'a>(name: &[u8], elements: &Elements<'a>) -> Option<&'a [u8]>
-    ensures { text_view result ≡ option_filter is_other (text_in name.now elements.now) }
-{
-    match text_in(name, elements) {
-        Some(text) => if is_other(text) { Some(text) } else { None },
-        None => None,
-    }
-}
-
-// The type of the first composite of this name that has another type than 00.
-fn other_type<'a>(name: &[u8], type_name: &[u8], elements: &Elements<'a>) -> Option<&'a [u8]>
-    ensures { text_view result ≡ find is_other
-        (map (λ c. text_or_empty type_name.now c.below) (composites name.now elements.now)) }
-{
-    let mut rest = elements.copy();
-    while let Some((found, behind)) = next_composite(name, &rest) {
-        let code = text_or_empty(type_name, &found.below);
-        if is_other(code) {
-            return Some(code);
-        }
-        rest = behind;
-    }
-    None
-}
-
-// Whether there is such a composite.
-fn mark_in(name: &[u8], elements: &Elements<'_>) -> Option<&'static [u8]>
-    ensures { text_view result ≡ option_map (λ c. []) (first (composites name.now elements.now)) }
-{
-    match first_composite(name, elements) {
-        Some(_) => Some(b""),
-        None => None,
-    }
-}
-
-/// The first of these names by which an element has a text.
-pub(crate) fn first_with_text(
-    names: &[&'static [u8]],
-    elements: &Elements<'_>,
-) -> Option<&'static [u8]>
-    ensures { text_view result ≡ first_with_text elements.now (map (λ n. n.now) names.now) }
-{
-    let mut rest = names;
-    while let [name, tail @ ..] = rest {
-        if text_in(name, elements).is_some() {
-            return Some(*name);
-        }
-        rest = tail;
-    }
-    None
-}
-
-// The first of the elements of ONIX 2.1 that is there.
-fn old_element(elements: &Elements<'_>) -> Option<&'static [u8]>
-    ensures { text_view result ≡ old_element elements.now }
-{
-    first_with_text(
-        &[
-            b"PriceTypeCode",
-            b"ClassOfTrade",
-            b"PriceEffectiveFrom",
-            b"PriceEffectiveUntil",
-            b"CountryCode",
-            b"CountryExcluded",
-            b"TerritoryExcluded",
-            b"(j303)",
-        ],
-        elements,
-    )
 }
 
 // A foreign reason, where there is a text that is one.
@@ -197,97 +102,64 @@ fn if_wrong<'a>(reason: Option<Reason<'a>>) -> Option<Reason<'a>>
     }
 }
 
-// Why dates, an amount or the territory leave a Price out, or elements of ONIX 2.1.
-fn late_reason<'a>(
-    area: &Area<'a>,
-    wrong_date: Option<Reason<'a>>,
-    free: Option<Reason<'a>>,
-    elements: &Elements<'a>,
-) -> Option<Reason<'a>>
-    ensures { area_view area.now ≡ area_in elements.now → reason_read result
-        ≡ first_some (late_reasons (reason_read wrong_date.entry)
-        (reason_read free.entry) elements.now) }
-{
-    let old = because_old(old_element(elements));
-    let formed = former(form_reason(area), former(if_wrong(wrong_date), None));
-    let dated = former(old, formed);
-    let charged = former(free, former(if_foreign(wrong_date), dated));
-    former(unsupported(area), charged)
-}
-
 /// That the amount of a Price is 0.
-pub(crate) fn free_reason<'a>(elements: &Elements<'a>) -> Option<Reason<'a>>
-    ensures { reason_read result ≡ free_reason elements.now }
+pub(crate) fn free_reason<'a>(price: &PriceTexts<'a>) -> Option<Reason<'a>>
+    ensures { reason_read result ≡ free_reason (price_view price.now) }
 {
-    let said = amount_said(elements);
-    if is_zero(said) {
-        Some(Reason::foreign(Foreign::NoCharge, said))
+    if is_zero(price.amount) {
+        Some(Reason::foreign(Foreign::NoCharge, price.amount))
     } else {
         None
     }
 }
 
-// Why a Price that holds there is another than the desk knows.
+/// Why a Price is another than the desk knows.
 pub(crate) fn early_reason<'a>(
-    area: &Area<'a>,
-    wrong_date: Option<Reason<'a>>,
+    dated: Option<Reason<'a>>,
     free: Option<Reason<'a>>,
-    elements: &Elements<'a>,
+    price: &PriceTexts<'a>,
 ) -> Option<Reason<'a>>
-    ensures { area_view area.now ≡ area_in elements.now → reason_read result
-        ≡ first_some (early_reasons (reason_read wrong_date.entry)
-        (reason_read free.entry) elements.now) }
+    ensures { reason_read result ≡ first_some
+        (early_reasons (reason_read dated.entry) (reason_read free.entry) (price_view price.now)) }
 {
-    let late = late_reason(area, wrong_date, free, elements);
-    let mark = mark_in(b"EpubLicenseWithDate", elements);
-    let dated_license = because(Foreign::EpubLicenseWithDate, mark);
-    let license = because(Foreign::EpubLicense, mark_in(b"EpubLicense", elements));
-    let zone = because(Foreign::CurrencyZone, text_in(b"CurrencyZone", elements));
-    let coded = because(Foreign::PriceCoded, mark_in(b"PriceCoded", elements));
-    let constraint = because(
-        Foreign::PriceConstraint,
-        other_type(b"PriceConstraint", b"PriceConstraintType", elements),
-    );
-    let condition = because(
-        Foreign::PriceCondition,
-        other_type(b"PriceCondition", b"PriceConditionType", elements),
-    );
-    let per = because(Foreign::PricePer, other_in(b"PricePer", elements));
-    let qualifier = because(Foreign::PriceQualifier, other_qualifier(elements));
-    let licensed = former(license, former(dated_license, late));
-    let marked = former(coded, former(zone, licensed));
-    let typed = former(condition, former(constraint, marked));
-    former(qualifier, former(per, typed))
+    first_of(&[
+        because(Foreign::PriceQualifier, price.qualifier),
+        because(Foreign::PricePer, price.per),
+        because(Foreign::PriceCondition, price.condition),
+        because(Foreign::PriceConstraint, price.constraint),
+        because(Foreign::PriceCoded, price.coded),
+        because(Foreign::CurrencyZone, price.zone),
+        because(Foreign::EpubLicense, price.license),
+        because(Foreign::EpubLicenseWithDate, price.dated_license),
+        unsupported(&price.area),
+        free,
+        if_foreign(dated),
+        because_old(price.old),
+        form_reason(&price.area),
+        if_wrong(dated),
+    ])
 }
 
-// Whether a Price is for others than the shop, or for another unit than a copy.
-fn is_limited(elements: &Elements<'_>) -> bool
-    ensures { result ≡ is_limited elements.now }
+/// Whether a Price is for others than the shop, for another unit than a copy, for those who have a
+/// licence, or of 0.
+pub(crate) fn is_for_others(price: &PriceTexts<'_>) -> bool
+    ensures { result ≡ is_for_others (price_view price.now) }
 {
-    other_qualifier(elements).is_some()
-        || other_in(b"PricePer", elements).is_some()
-        || other_type(b"PriceCondition", b"PriceConditionType", elements).is_some()
-        || other_type(b"PriceConstraint", b"PriceConstraintType", elements).is_some()
-}
-
-/// Whether a Price is for others than the shop, for another unit than a copy, or of 0.
-pub(crate) fn is_for_others(elements: &Elements<'_>) -> bool
-    ensures { result ≡ is_for_others elements.now }
-{
-    is_limited(elements)
-        || mark_in(b"EpubLicense", elements).is_some()
-        || mark_in(b"EpubLicenseWithDate", elements).is_some()
-        || is_zero(amount_said(elements))
+    price.qualifier.is_some()
+        || price.per.is_some()
+        || price.condition.is_some()
+        || price.constraint.is_some()
+        || price.license.is_some()
+        || price.dated_license.is_some()
+        || is_zero(price.amount)
 }
 
 /// Whether a Price is nothing: it has no amount and no PriceCoded, and the record of its
 /// SupplyDetail an UnpricedItemType.
-pub(crate) fn is_nothing(context: &PriceContext<'_, '_, '_>, elements: &Elements<'_>) -> bool
-    ensures { result ≡ is_nothing (context_view context.now) elements.now }
+pub(crate) fn is_nothing(context: &PriceContext<'_, '_, '_>, price: &PriceTexts<'_>) -> bool
+    ensures { result ≡ is_nothing (context_view context.now) (price_view price.now) }
 {
-    context.is_unpriced
-        && text_in(b"PriceAmount", elements).is_none()
-        && mark_in(b"PriceCoded", elements).is_none()
+    context.is_unpriced && !price.has_amount && price.coded.is_none()
 }
 
 // The text of a day, empty where there is none.
@@ -310,31 +182,27 @@ struct Owned {
     last: Text,
 }
 
-fn owned_texts(
-    alloc: Global,
-    elements: &Elements<'_>,
-    area: &Area<'_>,
-    days: Days,
-) -> Result<Owned, AllocError>
-    ensures texts { IfOk result (λ o. AreOwned o days elements.now) }
-    ensures renamed { IfOk result (λ o. AreRenamed o.renamed (area_view area.now)) }
+fn owned_texts(alloc: Global, price: &PriceTexts<'_>) -> Result<Owned, AllocError>
+    ensures texts { IfOk result (λ o. AreOwned o (price_view price.now)) }
+    ensures renamed { IfOk result (λ o. AreRenamed o.renamed (price_view price.now).area) }
 {
+    let days = right_days(&price.dated);
     Ok(Owned {
-        amount: rounded_text(alloc, amount_said(elements))?,
-        renamed: renamed_in(alloc, area)?,
+        amount: rounded_text(alloc, price.amount)?,
+        renamed: renamed_in(alloc, &price.area)?,
         first: day_field(alloc, days.first)?,
         last: day_field(alloc, days.last)?,
     })
 }
 
 // An amount as it is written.
-fn amount_written<'b>(owned: &'b Owned, elements: &Elements<'b>) -> &'b [u8]
-    ensures { owned.now.amount ≡ rounded_text elements.now
-        → result.now ≡ amount_written elements.now }
+fn amount_written<'b>(owned: &'b Owned, said: &'b [u8]) -> &'b [u8]
+    ensures { owned.now.amount ≡ rounded_text said.now
+        → result.now ≡ amount_written said.now }
 {
     match &owned.amount {
         Some(text) => text.as_str().as_bytes(),
-        None => amount_said(elements),
+        None => said,
     }
 }
 
@@ -342,16 +210,17 @@ fn amount_written<'b>(owned: &'b Owned, elements: &Elements<'b>) -> &'b [u8]
 fn eight_texts<'b>(
     owned: &'b Owned,
     territory: [&'b [u8]; 3],
-    elements: &Elements<'b>,
+    price: &PriceTexts<'b>,
 ) -> [&'b [u8]; 8]
-    ensures { (days : Days) → AreOwned owned.now days elements.now → map (λ t. t.now) result
-        ≡ eight_fields (map (λ t. t.now) territory.entry) days elements.now }
+    ensures { AreOwned owned.now (price_view price.now)
+        → map (λ t. t.now) result
+        ≡ eight_fields (map (λ t. t.now) territory.entry) (price_view price.now) }
 {
     let [included, world, excluded] = territory;
     [
-        text_or_empty(b"PriceType", elements),
-        amount_written(owned, elements),
-        text_or_empty(b"CurrencyCode", elements),
+        price.price_type,
+        amount_written(owned, price.amount),
+        price.currency,
         included,
         world,
         excluded,
@@ -455,24 +324,24 @@ fn take_texts<'b>(
     context: &PriceContext<'_, '_, '_>,
     owned: &'b Owned,
     territory: [&'b [u8]; 3],
-    elements: &Elements<'b>,
+    price: &PriceTexts<'b>,
     fields: &mut FieldBuffer,
 ) -> Result<bool, AllocError>
-    ensures record { AreOwned owned.now (right_days elements.now) elements.now
+    ensures record { AreOwned owned.now (price_view price.now)
         → IfOk result (λ is. is ≡ true
-        → fields.new ≡ codes "Price" ∷ fields_in (context_view context.now) elements.now
+        → fields.new ≡ codes "Price" ∷ fields_in (context_view context.now) (price_view price.now)
         (map (λ t. t.now) territory.entry)) }
-    ensures taken { AreOwned owned.now (right_days elements.now) elements.now
+    ensures taken { AreOwned owned.now (price_view price.now)
         → IfOk result (λ is. is ≡ is_some (parsed (price_of context.now.opening.now)
-        (fields_in (context_view context.now) elements.now
+        (fields_in (context_view context.now) (price_view price.now)
         (map (λ t. t.now) territory.entry)))) }
 {
-    let minimum = greater_of(own_minimum(elements), context.minimum);
+    let minimum = greater_of(price.minimum, context.minimum);
     take_price(
         alloc,
         context.opening,
         fields,
-        &eight_texts(owned, territory, elements),
+        &eight_texts(owned, territory, price),
         minimum,
     )
 }
@@ -480,11 +349,11 @@ fn take_texts<'b>(
 // That a Price beside this one, of its type and currency, is left out for its PriceDates alone.
 fn closed_reason(
     context: &PriceContext<'_, '_, '_>,
-    elements: &Elements<'_>,
+    price: &PriceTexts<'_>,
 ) -> Option<Reason<'static>>
-    ensures { reason_read result ≡ closed_reason (context_view context.now) elements.now }
+    ensures { reason_read result ≡ closed_reason (context_view context.now) (price_view price.now) }
 {
-    let kind = kind_in(context.opening, elements);
+    let kind = kind_in(context.opening, price);
     if !has_kind(&kind, context.closed) {
         return None;
     }
@@ -508,25 +377,25 @@ fn take_narrowed<'b>(
     context: &PriceContext<'_, '_, '_>,
     owned: &'b Owned,
     excluded: Option<&'b Text>,
-    elements: &Elements<'b>,
+    price: &PriceTexts<'b>,
     fields: &mut FieldBuffer,
 ) -> Result<bool, AllocError>
-    ensures record { option_copied excluded.entry ≡ narrowed (context_view context.now) elements.now
-        → AreOwned owned.now (right_days elements.now) elements.now
-        → fields.old ≡ codes "Price" ∷ price_fields (context_view context.now) elements.now
+    ensures record { option_copied excluded.entry ≡ narrowed (context_view context.now) (price_view price.now)
+        → AreOwned owned.now (price_view price.now)
+        → fields.old ≡ codes "Price" ∷ price_fields (context_view context.now) (price_view price.now)
         → IfOk result (λ is. is ≡ true
-        → fields.new ≡ codes "Price" ∷ written_fields (context_view context.now) elements.now) }
-    ensures taken { option_copied excluded.entry ≡ narrowed (context_view context.now) elements.now
-        → AreOwned owned.now (right_days elements.now) elements.now
-        → is_taken (context_view context.now) elements.now ≡ true
+        → fields.new ≡ codes "Price" ∷ written_fields (context_view context.now) (price_view price.now)) }
+    ensures taken { option_copied excluded.entry ≡ narrowed (context_view context.now) (price_view price.now)
+        → AreOwned owned.now (price_view price.now)
+        → is_taken (context_view context.now) (price_view price.now) ≡ true
         → IfOk result (λ is. is ≡ is_some (parsed (price_of context.now.opening.now)
-        (written_fields (context_view context.now) elements.now))) }
+        (written_fields (context_view context.now) (price_view price.now)))) }
 {
     match excluded {
         None => Ok(true),
         Some(excluded) => {
             let territory = world_without(excluded);
-            take_texts(alloc, context, owned, territory, elements, fields)
+            take_texts(alloc, context, owned, territory, price, fields)
         }
     }
 }
@@ -538,68 +407,63 @@ fn push_price<'b>(
     context: &PriceContext<'_, '_, '_>,
     owned: &'b Owned,
     excluded: Option<&'b Text>,
-    elements: &Elements<'b>,
+    price: &PriceTexts<'b>,
     fields: &mut FieldBuffer,
     records: &mut RecordBuffer,
 ) -> Result<Option<Reason<'static>>, AllocError>
-    ensures reason { option_copied excluded.entry ≡ narrowed (context_view context.now) elements.now
-        → AreOwned owned.now (right_days elements.now) elements.now
-        → is_taken (context_view context.now) elements.now ≡ true
+    ensures reason { option_copied excluded.entry ≡ narrowed (context_view context.now) (price_view price.now)
+        → AreOwned owned.now (price_view price.now)
+        → is_taken (context_view context.now) (price_view price.now) ≡ true
         → IfOk result (λ reason. reason_read reason
-        ≡ long_reason (context_view context.now) elements.now) }
-    ensures record { option_copied excluded.entry ≡ narrowed (context_view context.now) elements.now
-        → AreOwned owned.now (right_days elements.now) elements.now
-        → fields.old ≡ codes "Price" ∷ price_fields (context_view context.now) elements.now
-        → is_taken (context_view context.now) elements.now ≡ true
+        ≡ long_reason (context_view context.now) (price_view price.now)) }
+    ensures record { option_copied excluded.entry ≡ narrowed (context_view context.now) (price_view price.now)
+        → AreOwned owned.now (price_view price.now)
+        → fields.old ≡ codes "Price" ∷ price_fields (context_view context.now) (price_view price.now)
+        → is_taken (context_view context.now) (price_view price.now) ≡ true
         → OnOk result (records.new ≡ records.old ++ outcome_records
-        (outcome_of (long_reason (context_view context.now) elements.now)
-        (context_view context.now) elements.now)) }
+        (outcome_of (long_reason (context_view context.now) (price_view price.now))
+        (context_view context.now) (price_view price.now))) }
 {
-    if take_narrowed(alloc, context, owned, excluded, elements, fields)? {
+    if take_narrowed(alloc, context, owned, excluded, price, fields)? {
         records.push(&fields.as_record())?;
         return Ok(None);
     }
     Ok(Some(Reason::foreign(Foreign::LongTerritory, b"")))
 }
 
-// Adds the record of a Price with these days in this territory, or gives the reason for which it is
-// left out.
+// Adds the record of a Price, or gives the reason for which it is left out.
 fn write_price<'a>(
     alloc: Global,
     context: &PriceContext<'_, '_, '_>,
-    elements: &Elements<'a>,
-    area: &Area<'a>,
-    days: Days,
+    price: &PriceTexts<'a>,
     fields: &mut FieldBuffer,
     records: &mut RecordBuffer,
 ) -> Result<Option<Reason<'a>>, AllocError>
-    ensures reason { area_view area.now ≡ area_in elements.now → days ≡ right_days elements.now
-        → IfOk result (λ reason. reason_read reason
-        ≡ last_reason (context_view context.now) elements.now) }
-    ensures record { area_view area.now ≡ area_in elements.now → days ≡ right_days elements.now
-        → OnOk result (records.new ≡ records.old ++ outcome_records
-        (outcome_of (last_reason (context_view context.now) elements.now)
-        (context_view context.now) elements.now)) }
+    ensures reason { IfOk result (λ reason. reason_read reason
+        ≡ last_reason (context_view context.now) (price_view price.now)) }
+    ensures record { OnOk result (records.new ≡ records.old ++ outcome_records
+        (outcome_of (last_reason (context_view context.now) (price_view price.now))
+        (context_view context.now) (price_view price.now))) }
 {
-    let owned = owned_texts(alloc, elements, area, days)?;
-    let territory = area_fields(area, &owned.renamed);
-    if !take_texts(alloc, context, &owned, territory, elements, fields)? {
-        let field = field_reason(alloc, context.opening, area, &owned.renamed, elements)?;
+    let owned = owned_texts(alloc, price)?;
+    let territory = area_fields(&price.area, &owned.renamed);
+    if !take_texts(alloc, context, &owned, territory, price, fields)? {
+        let field = field_reason(alloc, context.opening, &owned.renamed, price)?;
         return match field {
             Some(reason) => Ok(Some(reason)),
             None => Ok(Some(Reason::wrong(Wrong::Price, b""))),
         };
     }
-    if let Some(reason) = closed_reason(context, elements) {
+    if let Some(reason) = closed_reason(context, price) {
         return Ok(Some(reason));
     }
-    let excluded = narrowed_in(alloc, context, &owned.renamed, area, days, elements)?;
+    let excluded = narrowed_in(alloc, context, &owned.renamed, price)?;
     push_price(
         alloc,
         context,
         &owned,
         excluded.as_ref(),
-        elements,
+        price,
         fields,
         records,
     )
@@ -609,92 +473,75 @@ fn write_price<'a>(
 // the desk would not take it.
 fn add_known<'a>(
     context: &PriceContext<'_, '_, '_>,
-    elements: &Elements<'a>,
-    area: &Area<'a>,
-    days: Days,
+    price: &PriceTexts<'a>,
     fields: &mut FieldBuffer,
     records: &mut RecordBuffer,
     notes: &mut Vec<Note<'a>>,
 ) -> Result<Option<Reason<'a>>, AllocError>
-    ensures { area_view area.now ≡ area_in elements.now → days ≡ right_days elements.now
-        → IfOk result (λ reason. AddsUnless (last_reason (context_view context.now) elements.now)
-        (context_view context.now) elements.now (reason_read reason) records.old records.new
+    ensures { IfOk result (λ reason. AddsUnless (last_reason (context_view context.now) (price_view price.now))
+        (context_view context.now) (price_view price.now) (reason_read reason) records.old records.new
         (note_views notes.old.items) (note_views notes.new.items)) }
 {
     let alloc = *notes.allocator();
-    let left_out = write_price(alloc, context, elements, area, days, fields, records)?;
+    let left_out = write_price(alloc, context, price, fields, records)?;
     if left_out.is_none() {
-        push_territory_notes(notes, area)?;
-        push_counted(notes, elements)?;
+        push_territory_notes(notes, &price.area)?;
+        push_counted(notes, price)?;
     }
     Ok(left_out)
 }
 
 // Adds what comes of a Price that is something: its record, or the reason for which it is left out.
 fn add_priced<'a>(
-    alloc: Global,
     context: &PriceContext<'_, '_, '_>,
-    elements: &Elements<'a>,
+    price: &PriceTexts<'a>,
     fields: &mut FieldBuffer,
     records: &mut RecordBuffer,
     notes: &mut Vec<Note<'a>>,
 ) -> Result<Option<Reason<'a>>, AllocError>
     ensures { IfOk result (λ reason. AddsUnless
-        (first_some (price_reasons (context_view context.now) elements.now))
-        (context_view context.now) elements.now (reason_read reason) records.old records.new
-        (note_views notes.old.items) (note_views notes.new.items)) }
+        (first_some (price_reasons (context_view context.now) (price_view price.now)))
+        (context_view context.now) (price_view price.now) (reason_read reason) records.old
+        records.new (note_views notes.old.items) (note_views notes.new.items)) }
 {
-    let area = area_in(elements);
-    let dated = days_in(elements);
-    match early_reason(&area, wrong_date(&dated), free_reason(elements), elements) {
-        None => add_known(
-            context,
-            elements,
-            &area,
-            right_days(&dated),
-            fields,
-            records,
-            notes,
-        ),
+    match early_reason(wrong_date(&price.dated), free_reason(price), price) {
+        None => add_known(context, price, fields, records, notes),
         Some(reason) => Ok(Some(reason)),
     }
 }
 
-/// Whether the desk takes the record of a Price with these days in this territory.
-pub(crate) fn is_taken_then<'a>(
+/// Whether the desk takes the record of a Price.
+pub(crate) fn is_taken<'a>(
     alloc: Global,
     context: &PriceContext<'_, '_, '_>,
-    elements: &Elements<'a>,
-    area: &Area<'a>,
-    days: Days,
+    price: &PriceTexts<'a>,
     fields: &mut FieldBuffer,
 ) -> Result<bool, AllocError>
-    ensures { area_view area.now ≡ area_in elements.now → days ≡ right_days elements.now
-        → IfOk result (λ is. is ≡ is_taken (context_view context.now) elements.now) }
+    ensures { IfOk result
+        (λ is. is ≡ is_taken (context_view context.now) (price_view price.now)) }
 {
-    let owned = owned_texts(alloc, elements, area, days)?;
-    let territory = area_fields(area, &owned.renamed);
-    take_texts(alloc, context, &owned, territory, elements, fields)
+    let owned = owned_texts(alloc, price)?;
+    let territory = area_fields(&price.area, &owned.renamed);
+    take_texts(alloc, context, &owned, territory, price, fields)
 }
 
 /// Adds what comes of a Price: its record, where it has one, and notes on what is left out. The
 /// list takes the fields of the record.
 pub(crate) fn add_price<'a>(
-    alloc: Global,
     context: &PriceContext<'_, '_, '_>,
-    price: &Composite<'a>,
+    price: &PriceTexts<'a>,
     fields: &mut FieldBuffer,
     records: &mut RecordBuffer,
     notes: &mut Vec<Note<'a>>,
 ) -> Result<(), AllocError>
     ensures records { OnOk result (records.new ≡ records.old
-        ++ outcome_records (price_outcome (context_view context.now) price.now.below)) }
+        ++ outcome_records (price_outcome (context_view context.now) (price_view price.now))) }
     ensures notes { OnOk result (note_views notes.new.items ≡ note_views notes.old.items
-        ++ outcome_notes (price_outcome (context_view context.now) price.now.below)) }
+        ++ outcome_notes (price_outcome (context_view context.now) (price_view price.now))) }
 {
-    if is_nothing(context, &price.below) {
+    if is_nothing(context, price) {
         return Ok(());
     }
-    let left_out = add_priced(alloc, context, &price.below, fields, records, notes)?;
+    let left_out = add_priced(context, price, fields, records, notes)?;
     push_reason(notes, price.line, left_out)
 }

@@ -1,12 +1,11 @@
-use Rattle.std.proofs.Common.{◌≡◌, ◌++◌, length}
-use Rattle.std.specs.Prelude.{codes}
-use Rattle.feed_mapping.specs.Elements.{composites}
+use Rattle.std.proofs.Common.{◌≡◌, ◌++◌, length, map}
+use Rattle.feed_mapping.specs.PriceTexts.{price_view}
 use Rattle.feed_mapping.specs.Prices.{closing_kinds, context_view}
 use Rattle.feed_mapping.proofs.closing_prices.closing_kinds.Given as goal
 
-abbrev pub invariant-loop-price : goal.invariant-loop-price
-invariant-loop-price l =
-    l.kinds ++ closing_kinds (context_view l.context) (composites (codes "Price") l.rest) ≡ closing_kinds (context_view l.context) (composites (codes "Price") l.elements)
+abbrev pub invariant-loop-rest : goal.invariant-loop-rest
+invariant-loop-rest l =
+    l.kinds ++ closing_kinds (context_view l.context) (map price_view l.rest) ≡ closing_kinds (context_view l.context) (map price_view l.prices)
 
-abbrev pub decreases-loop-price : goal.decreases-loop-price
-decreases-loop-price l = length (composites (codes "Price") l.rest)
+abbrev pub decreases-loop-rest : goal.decreases-loop-rest
+decreases-loop-rest l = length l.rest

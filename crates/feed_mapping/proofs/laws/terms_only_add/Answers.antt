@@ -1,4 +1,5 @@
-use Rattle.feed_mapping.specs.Details.{context_in, price_in, prices_in, supplier_id}
+use Rattle.feed_mapping.specs.PriceTexts.{prices_in}
+use Rattle.feed_mapping.specs.Details.{context_in, price_in, supplier_id}
 use Rattle.feed_mapping.specs.Outcomes.{all_records}
 use Rattle.feed_mapping.specs.PriceTerms.{all_given, closed_kinds, supplier_of}
 use Rattle.feed_mapping.proofs.GivenPriceLaws.{given-stands}

@@ -2,7 +2,7 @@ use Rattle.std.proofs.Common.{◌≡◌, ◌∙◌, ℕ, List, Option, Some, Non
 use Rattle.std.specs.Prelude.{option_map}
 use Rattle.std.specs.Option.{option_map_or}
 use Rattle.onix_terms.specs.Amount.{amount_text}
-use Rattle.feed_mapping.specs.Amounts.{amount_said, rounded_amount}
+use Rattle.feed_mapping.specs.Amounts.{rounded_amount}
 use Rattle.feed_mapping.proofs.prices.amount_written.Goals as goal
 
 -- a rounded amount that there is, is written
@@ -16,10 +16,10 @@ none-is (Some n) said same = cc
 
 pub returns-in-Some : goal.returns-in-Some
 returns-in-Some c = λ same.
-    let said = amount_said c.args.elements.now in
+    let said = c.args.said.now in
     c.as_bytes.ensures.value ∙ c.as_str.ensures ∙ rounded-is (rounded_amount said) said c.in-Some.text (sym c.in-Some.is ∙ same)
 
 pub returns-in-None : goal.returns-in-None
 returns-in-None c = λ same.
-    let said = amount_said c.args.elements.now in
-    c.amount_said.ensures ∙ none-is (rounded_amount said) said (sym c.in-None.is ∙ same)
+    let said = c.args.said.now in
+    none-is (rounded_amount said) said (sym c.in-None.is ∙ same)

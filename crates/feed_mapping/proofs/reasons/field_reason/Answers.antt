@@ -1,15 +1,14 @@
-use Rattle.std.proofs.Common.{◌≡◌, ◌∙◌, ◌∷◌, [], Option, ap, refl, subst, sym}
+use Rattle.std.proofs.Common.{◌≡◌, ◌∙◌, ◌∷◌, [], Option, ap, refl}
 use Rattle.std.specs.Option.{unwrap_or}
 use Rattle.onix_records.specs.Fields.{optional, or_default}
 use Rattle.onix_terms.specs.Code.{code2_of, currency_of}
 use Rattle.onix_terms.specs.Quantity.{quantity_of}
-use Rattle.feed_mapping.specs.Amounts.{amount_said, written_amount}
-use Rattle.feed_mapping.specs.Elements.{text_at}
+use Rattle.feed_mapping.specs.Amounts.{written_amount}
 use Rattle.feed_mapping.specs.Notes.{Reason}
+use Rattle.feed_mapping.specs.PriceTexts.{price_view}
 use Rattle.feed_mapping.specs.PriceViews.{reason_read}
-use Rattle.feed_mapping.specs.Prices.{own_minimum}
 use Rattle.feed_mapping.specs.Records.{first_some, invalid, parsed_term}
-use Rattle.feed_mapping.specs.Territories.{Area, AreRenamed, area_in, area_reason}
+use Rattle.feed_mapping.specs.Territories.{area_reason}
 use Rattle.feed_mapping.specs.declared.notes.Wrong.TheVariants as bad
 use Rattle.feed_terms.specs.declared.price.Kind.{Kind}
 use Rattle.feed_mapping.proofs.ElementLaws.{text-or-none}
@@ -19,30 +18,25 @@ same-five : {a b c d e v w x y z : Option Reason} → a ≡ v → b ≡ w → c 
 same-five v w x y z = cc
 
 pub returns : goal.returns
-returns c at renamed =
-    let nodes = c.args.elements.now in
+returns c = λ renamed.
+    let price = price_view c.args.price.now in
     let header = c.args.opening.now.header in
-    let amount : reason_read c.unless.result ≡ invalid written_amount bad.Amount (amount_said nodes) =
-    let text = c.amount_said-amount.ensures in
-    let read = c.written_amount.ensures in
+    let amount : reason_read c.unless.result ≡ invalid written_amount bad.Amount price.amount =
+    let read = c.written_amount-amount.ensures in
     let is = c.is_some.ensures in
     let made = c.unless.ensures in cc in
-    let typed : reason_read c.unless-2.result ≡ invalid (or_default (parsed_term code2_of) header.default_type) bad.PriceType (text_at "PriceType" nodes) =
-    let text = c.text_or_empty-type_text.ensures in
+    let typed : reason_read c.unless-2.result ≡ invalid (or_default (parsed_term code2_of) header.default_type) bad.PriceType price.price_type =
     let own = ap (λ (k : Kind). k.price_type) c.kind_in-kind.ensures in
     let is = c.is_some-2.ensures in
     let made = c.unless-2.ensures in cc in
-    let coded : reason_read c.unless-3.result ≡ invalid (or_default (parsed_term currency_of) header.default_currency) bad.Currency (text_at "CurrencyCode" nodes) =
-    let text = c.text_or_empty-currency_text.ensures in
+    let coded : reason_read c.unless-3.result ≡ invalid (or_default (parsed_term currency_of) header.default_currency) bad.Currency price.currency =
     let own = ap (λ (k : Kind). k.currency) c.kind_in-kind.ensures in
     let is = c.is_some-3.ensures in
     let made = c.unless-3.ensures in cc in
-    let placed : reason_read c.in_ok-area_reason.field-0 ≡ area_reason (area_in nodes) =
-    let made = c.in_ok-area_reason.ensures (subst (λ (a : Area). AreRenamed c.args.renamed.now a) (sym at) renamed) in cc in
-    let minimum : c.unwrap_or-minimum.result.now ≡ unwrap_or (own_minimum nodes) [] =
-    let text = text-or-none c.own_minimum.result _ c.unwrap_or-minimum.result refl c.unwrap_or-minimum.ensures in
-    let there = c.own_minimum.ensures in cc in
-    let counted : reason_read c.unless-4.result ≡ invalid (optional (parsed_term quantity_of)) bad.Quantity (unwrap_or (own_minimum nodes) []) =
+    let placed : reason_read c.in_ok-area_reason.field-0 ≡ area_reason price.area = c.in_ok-area_reason.ensures renamed in
+    let minimum : c.unwrap_or-minimum.result.now ≡ unwrap_or price.minimum [] =
+    text-or-none c.args.price.now.minimum _ c.unwrap_or-minimum.result refl c.unwrap_or-minimum.ensures in
+    let counted : reason_read c.unless-4.result ≡ invalid (optional (parsed_term quantity_of)) bad.Quantity (unwrap_or price.minimum []) =
     let read = c.parsed_quantity.ensures in
     let may = c.may_be_empty-is_minimum.ensures in
     let made = c.unless-4.ensures in cc in

@@ -1,8 +1,8 @@
 use Rattle.std.proofs.Common.{◌≡◌, length}
 use Rattle.std.specs.Prelude.{find, map}
 use Rattle.feed_mapping.specs.Elements.{composites, text_or_empty}
-use Rattle.feed_mapping.specs.Prices.{is_other}
-use Rattle.feed_mapping.proofs.prices.other_type.Given as goal
+use Rattle.feed_mapping.specs.PriceTexts.{is_other}
+use Rattle.feed_mapping.proofs.price_texts.other_type.Given as goal
 
 abbrev pub invariant-loop-found : goal.invariant-loop-found
 invariant-loop-found l =

@@ -10,7 +10,7 @@ returns-in-Err g c = inr (refl, Appends-nil (g.W.Write.contents c.args.output.no
 
 pub returns : goal.returns
 returns g c =
-    inl (Some [], c.in-Err-send.ensures.err, [], [], refl, Appends-nil (g.W.Write.contents c.args.output.now))
+    inl (Some [], c.in-Err-send.ensures.err, ([], [], refl, Appends-nil (g.W.Write.contents c.args.output.now)))
 
 pub returns-in-Ok-take_answers : goal.returns-in-Ok-take_answers
 returns-in-Ok-take_answers g c =

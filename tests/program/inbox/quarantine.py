@@ -88,18 +88,19 @@ def several_supplies(room: Room) -> Iterator[Outcome]:
     """Of an article with two offers both are compared; of several markets, each with its own currency; and for each
     quantity of desk.json."""
     markets = [Book(0, country=country, currency="EUR") for country in "IE DE FR NL BE ES IT PT AT".split()]
-    for name, others, first, second in (
-        ("the dearer of two offers", [], "20.00", "2000.00"),
-        ("the cheaper of two offers", [], "9.00", "0.09"),
-        ("in the last of many markets", markets, "12.00", "1200.00"),
+    for name, others, last, price in (
+        ("the dearer of two offers", markets[:0], Book(0, "20.00"), "2000.00"),
+        ("the cheaper of two offers", markets[:0], Book(0, "9.00"), "0.09"),
+        ("the middle of three offers", [Book(0, "3000.00")], Book(0, "12.00"), "1200.00"),
+        ("a dearer offer more", markets[:0], Book(0, ""), "25.00"),
+        ("in the last of many markets", markets, Book(0, "12.00", country="US", currency="USD"), "1200.00"),
     ):
         inbox = inbox_in(room, name.replace(" ", "-"), program=room.program)
         inbox.shop = replace(SHOP, quantities=[1, 10, 25])
-        for number, price in enumerate((first, second), 1):
-            last = Book(0, price=price, **({"country": "US", "currency": "USD"} if others else {}))
-            supplies = "".join(map(supply, [*others, last]))
+        for number, book in enumerate((last, replace(last, price=price)), 1):
+            supplies = "".join(map(supply, [*others, book] if book.price else []))
             inbox.take(f"{number}.xml", feed(number, BOOKS).replace("</Product>", f"{supplies}</Product>"))
-        yield Outcome(name, inbox.states()["2.xml"], "quarantined")
+        yield Outcome(name, inbox.states()["2.xml"], "quarantined" if last.price else "applied")
     found = inbox.work(lambda each: [kind.quantity for kind in comparing.kinds_of(each, {})])
     yield Outcome("quantities", sorted({*found}), [1, 10, 25])
 

@@ -226,12 +226,12 @@ def compare(findings: Findings, isbn: str, spans: list[tuple[Spans, Spans]], mak
 
 
 def amounts(old: Spans, new: Spans) -> Iterator[tuple[int | None, int | None]]:
-    """The least amounts in both, and the greatest, for each day on which one of them changes."""
+    """The amounts in both in order, the least alone if one has more, for each day on which one of them changes."""
     for day in sorted({first for first, _, _ in [*old, *new]}):
         before, after = on(old, day), on(new, day)
-        yield min(before, default=None), min(after, default=None)
-        yield max(before, default=None), max(after, default=None)
+        least = min(before, default=None), min(after, default=None)
+        yield from zip(before, after) if len(before) == len(after) else [least]
 
 
 def on(spans: Spans, day: str) -> list[int]:
-    return [amount for first, last, amount in spans if first <= day <= last and amount is not None]
+    return sorted(amount for first, last, amount in spans if first <= day <= last and amount is not None)

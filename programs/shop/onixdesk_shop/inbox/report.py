@@ -44,8 +44,8 @@ def lines(inbox: Inbox) -> Iterator[str]:
     for file in sorted(inbox.ledger.files(WAITING), key=lambda file: file.state != "quarantined"):
         yield f"{file.mark}: {file.state} since {moment(file.at)}: {cut(file.why) or '-'}; {token(file.name)}"
     yield from not_alike(inbox, gaps)
-    yield from not_named(inbox)
     yield from not_verified(inbox)
+    yield from not_named(inbox)
 
 
 def of_the_week(inbox: Inbox) -> Iterator[str]:

@@ -48,6 +48,11 @@ pub(crate) fn push_counted<'a>(
     ensures { OnOk result (note_views notes.new.items ≡ note_views notes.old.items) }
 {
     push_unread(notes, b"Discount", Foreign::Discount, &price.below)?;
-    push_unread(notes, b"DiscountCoded", Foreign::DiscountCoded, &price.below)?;
+    push_unread(
+        notes,
+        b"DiscountCoded",
+        Foreign::DiscountCoded,
+        &price.below,
+    )?;
     push_rounded(notes, price)
 }

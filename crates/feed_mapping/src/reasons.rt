@@ -33,7 +33,11 @@ pub(crate) fn field_reason<'a>(
     let is_minimum = may_be_empty(minimum, parsed_quantity(minimum));
     Ok(first_of(&[
         unless(amount.is_some(), Wrong::Amount, price.amount),
-        unless(kind.price_type.is_some(), Wrong::PriceType, price.price_type),
+        unless(
+            kind.price_type.is_some(),
+            Wrong::PriceType,
+            price.price_type,
+        ),
         unless(kind.currency.is_some(), Wrong::Currency, price.currency),
         area_reason(alloc, &price.area, renamed)?,
         unless(is_minimum, Wrong::Quantity, minimum),

@@ -371,6 +371,9 @@ def waived(room: Room) -> Iterator[Outcome]:
     inbox.desk = begun
     inbox.run()
     yield Outcome("a number that nobody has any more", inbox.states(), {"1.xml": "applied", "other.xml": "rejected"})
+    inbox.series.parties = (*inbox.series.parties[:2], "06", "5012345678900")
+    inbox.run()
+    yield Outcome("under another agreement", inbox.states()["1.xml"], "applied")
 
 
 def waived_half(room: Room) -> Iterator[Outcome]:

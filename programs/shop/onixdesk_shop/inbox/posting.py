@@ -183,7 +183,7 @@ def post_unwaived(inbox: Inbox, gaps: Gaps) -> None:
         if row.number not in unwaived or gaps.lacks(row.number) or not ledger.stands(row.number):
             continue
         answer = inbox.desk.post(ledger.text(row.number))
-        if isinstance(answer, Refused):
+        if isinstance(answer, Refused) and answer.reason == "waived":
             with ledger.step():
                 settle_refused(inbox, row, answer, gaps)
                 ledger.forget_references(row.number)
